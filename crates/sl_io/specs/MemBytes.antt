@@ -1,0 +1,8 @@
+-- What contracts see of a sink in memory.
+use Rattle.std.specs.Prelude.{ℕ, List}
+
+-- the bytes that were taken, how many there may be, and the count of faults
+pub record MemBytes : Type 0 where
+  pub bytes : List ℕ
+  pub room : ℕ
+  pub faults : ℕ

@@ -1,0 +1,5 @@
+pub mod Limits
+pub mod Stable
+pub mod Raises
+pub mod Best
+pub mod Laws

@@ -1,0 +1,53 @@
+-- Lists of raises.
+use Rattle.std.specs.Prelude.{◌≡◌, ◌⊎◌, ℕ, ◌<◌, ◌≤◌, max, nat_le, cond, List, [], ◌∷◌, length}
+use Rattle.sl_types.specs.declared.kinds.Raise.{Raise}
+use Rattle.sl_types.specs.Market.{Market}
+use Rattle.sl_laws.specs.Limits.{Limits, with_limit, effective_limit}
+use Rattle.sl_laws.specs.Stable.{IsJustified, IsSettled}
+
+-- where each list of raises starts
+abbrev pub zeros : Limits
+zeros P = 0
+
+-- t after a raise: the pool's number is the greater of itself and the raise's limit
+abbrev pub raised : Limits → Raise → Limits
+raised t r = with_limit t r.pool.0 (max (t r.pool.0) r.limit)
+
+-- t after a list of raises
+abbrev pub raised_by : Limits → List Raise → Limits
+raised_by t [] = t
+raised_by t (r ∷ rs) = raised_by (raised t r) rs
+
+-- a raise that changes no effective limit
+abbrev pub IsVoid : Market → Limits → Raise → Type 0
+IsVoid market t r = r.limit ≤ effective_limit market t r.pool.0
+
+-- a list from t on, without its void raises
+abbrev pub unvoid : Market → Limits → List Raise → List Raise
+unvoid market t [] = []
+unvoid market t (r ∷ rs) = cond (nat_le r.limit (effective_limit market t r.pool.0)) (unvoid market (raised t r) rs) (r ∷ unvoid market (raised t r) rs)
+
+-- each raise of the list, from t on, is of a pool and is F where it stands
+abbrev pub Each : Market → (Limits → Raise → Type 0) → Limits → List Raise → Type 0
+Each market F t [] = Unit {0}
+Each market F t (r ∷ rs) = (r.pool.0 < length market.pools) × F t r × Each market F (raised t r) rs
+
+-- each raise is void or justified where it stands
+abbrev pub IsSound : Market → List Raise → Type 0
+IsSound market c = Each market (λ t r. IsVoid market t r ⊎ IsJustified market t r.pool.0 r.limit) zeros c
+
+-- the limits that a list reaches
+abbrev pub reached : List Raise → Limits
+reached c = raised_by zeros c
+
+-- a list without its void raises
+abbrev pub without_void : Market → List Raise → List Raise
+without_void market c = unvoid market zeros c
+
+-- sound, with no void raise
+abbrev pub Replays : Market → List Raise → Type 0
+Replays market c = Each market (λ t r. (effective_limit market t r.pool.0 < r.limit) × IsJustified market t r.pool.0 r.limit) zeros c
+
+-- it replays to limits at which each pool is settled, and l is their effective limits
+abbrev pub Proves : Market → List Raise → Limits → Type 0
+Proves market c l = Replays market c × ((P : ℕ) → P < length market.pools → IsSettled market (reached c) P × (effective_limit market (reached c) P ≡ l P))

@@ -1,0 +1,18 @@
+//! The rules of stable score limits, plain functions that compute them, and the laws that they obey.
+#![tactic(auto)]
+
+mod plain;
+mod replaced;
+mod theorems;
+
+pub use plain::{
+    plain_admit, plain_count, plain_eff, plain_feeds, plain_justified, plain_settled, plain_weight,
+};
+pub use theorems::{
+    best_decides, deciding_is_justified, demand_is_monotone, drops_void, feeds_says, is_local,
+    justified_below, justified_has_top, none_earlier, passes_no_stable_limit, proves_the_least,
+    settled_alike, sound_passes_none, stays_justified, stays_settled,
+};
+
+#[cfg(test)]
+mod tests;

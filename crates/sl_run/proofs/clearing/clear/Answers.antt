@@ -1,0 +1,15 @@
+use Rattle.std.proofs.Common.{slice_index}
+use Rattle.sl_laws.proofs.AllRules.{proves_the_least}
+use Rattle.sl_run.proofs.Raising.{ended}
+use Rattle.sl_run.proofs.clearing.clear.Goals as goal
+
+pub returns-clause-proved : goal.returns-clause-proved
+returns-clause-proved c =
+    ended c.args.instance.now c.raise_each.new.clearing.limits.items c.in_ok-limits.limits.items c.raise_each.new.clearing.raises.items c.in_ok-raise_each.ensures.under_way
+    (rw c.if-branch.false at c.in_ok-raise_each.ensures.raised) (rw c.deref.ensures.value at c.in_ok-limits.ensures.effective)
+
+pub returns-clause-least : goal.returns-clause-least
+returns-clause-least c =
+    proves_the_least c.args.instance.now c.pools.ensures.well_formed c.raise_each.new.clearing.raises.items (slice_index c.in_ok-limits.limits.items)
+    (ended c.args.instance.now c.raise_each.new.clearing.limits.items c.in_ok-limits.limits.items c.raise_each.new.clearing.raises.items c.in_ok-raise_each.ensures.under_way
+    (rw c.if-branch.false at c.in_ok-raise_each.ensures.raised) (rw c.deref.ensures.value at c.in_ok-limits.ensures.effective))

@@ -1,0 +1,76 @@
+ghost use Rattle.std.specs.Prelude.{◌≡◌, ◌≢◌, ◌⊎◌, ◌↔◌, true, ℕ, List, length, map, string_bytes, IfOk, IfErr, OnOk};
+ghost use Rattle.sl_io.specs.Count.{Rose};
+ghost use Rattle.sl_run.specs.Words.{IsClear};
+ghost use Rattle.sl_run.specs.Run.{Clears, Delivers, EndsBy, IsText, Leaves};
+
+use crate::clearing::clear;
+use crate::document::result_text;
+use crate::failure::{Failure, report};
+use crate::files::{Named, read_files};
+use crate::words::{Files, clear_files};
+use sl_io::{Shelf, Sink};
+use std::alloc::Global;
+
+// The text of an instance's least stable limits.
+fn cleared_text(alloc: Global, named: &Named) -> Result<String, Failure>
+    requires { length named.now.pool_codes ≡ length named.now.instance.pools }
+    ensures text { IfOk result (λ text. IsText named.now.instance named.now.pool_codes (string_bytes text)) }
+    ensures memory { IfErr result (λ failure. failure ≡ Failure.OutOfMemory) }
+{
+    let Ok(clearing) = clear(alloc, &named.instance) else {
+        return Err(Failure::OutOfMemory);
+    };
+    match result_text(alloc, &named.instance, &named.pool_codes, &clearing.limits) {
+        Ok(text) => Ok(text),
+        Err(_) => Err(Failure::OutOfMemory),
+    }
+}
+
+// Reads the files, clears, and puts the text.
+fn clear_to<S: Shelf, O: Sink>(
+    alloc: Global,
+    files: Files<'_>,
+    shelf: &mut S,
+    out: &mut O,
+) -> Result<(), Failure>
+    ensures delivered { OnOk result (S.tells shelf.old ≡ true → Delivers (S.contents shelf.old) files.entry.pools.now files.entry.programmes.now files.entry.applications.now (O.taken out.old) (O.taken out.new)) }
+    ensures left { IfErr result (λ failure. Leaves failure (O.taken out.old) (O.taken out.new) (O.faults out.old) (O.faults out.new)) }
+    ensures late { IfErr result (λ failure. failure ≢ Failure.Words) }
+{
+    let named = read_files(alloc, files, shelf)?;
+    let text = cleared_text(alloc, &named)?;
+    match out.put(text.as_bytes()) {
+        Ok(()) => Ok(()),
+        Err(_) => Err(Failure::Unwritable),
+    }
+}
+
+/// Carries out a command: `clear H 1 pools programmes applications` reads three tables in the plain form from
+/// `shelf`, finds the least stable limits, and puts the result to `out`. The answer is the status: 0; 2 for
+/// other words; 3 for a file that is too long or not in the plain form; 4 for a file that could not be read;
+/// 5 where `out` failed; 6 where memory ran out. With a status from 2 on one line goes to `err`.
+pub fn run<S: Shelf, O: Sink, E: Sink>(
+    alloc: Global,
+    words: &[String],
+    shelf: &mut S,
+    out: &mut O,
+    err: &mut E,
+) -> u8
+    ensures cleared { result ≡ 0 → S.tells shelf.old ≡ true → Clears (S.contents shelf.old) (map (λ w. string_bytes w) words.now) (O.taken out.old) (O.taken out.new) }
+    ensures words { (result ≡ 2) ↔ ((p g a : List ℕ) → ¬ (IsClear (map (λ w. string_bytes w) words.now) p g a)) }
+    ensures nothing { (result ≡ 2) ⊎ (result ≡ 3) ⊎ (result ≡ 4) → O.taken out.new ≡ O.taken out.old }
+    ensures unwritable { result ≡ 5 → Rose (O.faults out.old) (O.faults out.new) }
+    ensures line { EndsBy result (E.taken err.old) (E.taken err.new) (E.faults err.old) (E.faults err.new) }
+{
+    let ended = match clear_files(words) {
+        Some(files) => clear_to(alloc, files, shelf, out),
+        None => Err(Failure::Words),
+    };
+    match ended {
+        Ok(()) => 0,
+        Err(failure) => {
+            report(failure, err);
+            failure.status()
+        }
+    }
+}

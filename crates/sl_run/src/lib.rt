@@ -1,0 +1,19 @@
+//! The top call of `scorelimits`: from the words of a command to what it writes.
+#![tactic(auto)]
+
+mod applications;
+mod clearing;
+mod coded;
+mod command;
+mod document;
+mod failure;
+mod fields;
+mod files;
+mod pools;
+mod programmes;
+mod words;
+
+pub use command::run;
+
+#[cfg(test)]
+mod tests;

@@ -1,0 +1,348 @@
+use super::*;
+use sl_io::{MemShelf, MemSink};
+use std::alloc::{AllocError, Global};
+use std::test::Fail;
+
+// A command over three tables in memory, and what it is to end with.
+#[derive(Drop)]
+struct Case {
+    name: &'static str,
+    pools: &'static str,
+    programmes: &'static str,
+    applications: &'static str,
+    status: u8,
+    out: &'static str,
+    err: &'static str,
+}
+
+const POOL_HEADER: &str = "pool,quota,parent,kind\n";
+
+const TWO_POOLS: &str = "pool,quota,parent,kind\nA,1,,score\nB,1,,score\n";
+
+const TWO_PROGRAMMES: &str = "programme,pool\na,A\nb,B\n";
+
+const ONE_POOL: &str = "pool,quota,parent,kind\nA,1,,score\n";
+
+const ONE_PROGRAMME: &str = "programme,pool\na,A\n";
+
+const DISPLACED: &str =
+    "applicant,place,programme,score\nx,1,a,10\nx,2,b,10\ny,1,b,9\ny,2,a,12\nz,1,b,11\n";
+
+const DISPLACED_TEXT: &str = "result,1,,\nrule,H,,\nlimit,A,11,1\nlimit,B,11,1\nend,4,,\n";
+
+const NOBODY: &str = "applicant,place,programme,score\n";
+
+fn words_of(alloc: Global, words: &[&str]) -> Result<Vec<String>, AllocError> {
+    let mut all = Vec::new(alloc);
+    for word in words {
+        all.push(String::from_str(alloc, word)?)?;
+    }
+    Ok(all)
+}
+
+fn shelf_of(
+    alloc: Global,
+    pools: &str,
+    programmes: &str,
+    applications: &str,
+    fails: &[u64],
+) -> Result<MemShelf, AllocError> {
+    let mut files = Vec::new(alloc);
+    for (name, text) in [
+        ("pools", pools),
+        ("programmes", programmes),
+        ("applications", applications),
+    ] {
+        let name = String::from_str(alloc, name)?;
+        files.push((name, Vec::from_slice(alloc, text.as_bytes())?))?;
+    }
+    Ok(MemShelf::new(files, fails.to_vec(alloc)?))
+}
+
+const CLEAR: [&str; 6] = ["clear", "H", "1", "pools", "programmes", "applications"];
+
+// Runs `clear H 1` over three tables, into a sink with this much room.
+fn cleared(alloc: Global, case: &Case, room: usize) -> Result<(u8, MemSink, MemSink), Fail> {
+    let words = words_of(alloc, &CLEAR)?;
+    let mut shelf = shelf_of(alloc, case.pools, case.programmes, case.applications, &[])?;
+    let mut out = MemSink::new(alloc, room)?;
+    let mut err = MemSink::new(alloc, 1000)?;
+    let status = run(alloc, &words, &mut shelf, &mut out, &mut err);
+    Ok((status, out, err))
+}
+
+#[test]
+fn worked_examples(rt: HostRuntime) -> Result<(), Fail> {
+    for case in [
+        Case {
+            name: "no pools",
+            pools: POOL_HEADER,
+            programmes: "programme,pool\n",
+            applications: NOBODY,
+            status: 0,
+            out: "result,1,,\nrule,H,,\nend,2,,\n",
+            err: "",
+        },
+        Case {
+            name: "both prefer the first",
+            pools: TWO_POOLS,
+            programmes: TWO_PROGRAMMES,
+            applications: "applicant,place,programme,score\nx,1,a,10\nx,2,b,10\ny,1,a,8\ny,2,b,8\nz,1,b,9\n",
+            status: 0,
+            out: "result,1,,\nrule,H,,\nlimit,A,9,1\nlimit,B,9,1\nend,4,,\n",
+            err: "",
+        },
+        Case {
+            name: "crossing tie",
+            pools: ONE_POOL,
+            programmes: ONE_PROGRAMME,
+            applications: "applicant,place,programme,score\nx,1,a,10\ny,1,a,10\nz,1,a,5\n",
+            status: 0,
+            out: "result,1,,\nrule,H,,\nlimit,A,11,0\nend,3,,\n",
+            err: "",
+        },
+        Case {
+            name: "two programmes in one pool",
+            pools: ONE_POOL,
+            programmes: "programme,pool\na1,A\na2,A\n",
+            applications: "applicant,place,programme,score\nx,1,a1,10\nx,2,a2,14\ny,1,a1,12\n",
+            status: 0,
+            out: "result,1,,\nrule,H,,\nlimit,A,13,1\nend,3,,\n",
+            err: "",
+        },
+        Case {
+            name: "displaced twice",
+            pools: TWO_POOLS,
+            programmes: TWO_PROGRAMMES,
+            applications: DISPLACED,
+            status: 0,
+            out: DISPLACED_TEXT,
+            err: "",
+        },
+        Case {
+            name: "swapped admissions",
+            pools: TWO_POOLS,
+            programmes: TWO_PROGRAMMES,
+            applications: "applicant,place,programme,score\nx,1,a,5\nx,2,b,6\ny,1,b,5\ny,2,a,6\n",
+            status: 0,
+            out: "result,1,,\nrule,H,,\nlimit,A,0,1\nlimit,B,0,1\nend,4,,\n",
+            err: "",
+        },
+        Case {
+            name: "tie at the top score",
+            pools: ONE_POOL,
+            programmes: ONE_PROGRAMME,
+            applications: "applicant,place,programme,score\nx,1,a,1000000\ny,1,a,1000000\n",
+            status: 0,
+            out: "result,1,,\nrule,H,,\nlimit,A,1000001,0\nend,3,,\n",
+            err: "",
+        },
+    ] {
+        let (status, out, err) = cleared(rt.alloc(), &case, 1000)?;
+        assert_eq!(rt; status, case.status, "{}", case.name);
+        assert_eq!(rt; out.bytes(), case.out.as_bytes(), "{}", case.name);
+        assert_eq!(rt; err.bytes(), case.err.as_bytes(), "{}", case.name);
+    }
+    Ok(())
+}
+
+#[test]
+fn tables_in_another_form(rt: HostRuntime) -> Result<(), Fail> {
+    for (name, pools) in [
+        (
+            "carriage returns",
+            "pool,quota,parent,kind\r\nA,1,,score\r\nB,1,,score\r\n",
+        ),
+        ("no header", ""),
+        ("another header", "pool;quota;parent;kind\n"),
+        (
+            "no end of line",
+            "pool,quota,parent,kind\nA,1,,score\nB,1,,score",
+        ),
+        (
+            "a blank line",
+            "pool,quota,parent,kind\nA,1,,score\n\nB,1,,score\n",
+        ),
+        ("three fields", "pool,quota,parent,kind\nA,1,score\n"),
+        ("five fields", "pool,quota,parent,kind\nA,1,,score,\n"),
+        ("an empty code", "pool,quota,parent,kind\n,1,,score\n"),
+        ("a quoted code", "pool,quota,parent,kind\n\"A\",1,,score\n"),
+        (
+            "a repeated code",
+            "pool,quota,parent,kind\nA,1,,score\nA,1,,score\n",
+        ),
+        ("a signed quota", "pool,quota,parent,kind\nA,+1,,score\n"),
+        ("no places", "pool,quota,parent,kind\nA,0,,score\n"),
+        (
+            "too many places",
+            "pool,quota,parent,kind\nA,1000001,,score\n",
+        ),
+        (
+            "ten digits",
+            "pool,quota,parent,kind\nA,0000000001,,score\n",
+        ),
+        (
+            "a parent",
+            "pool,quota,parent,kind\nA,1,,score\nB,1,A,score\n",
+        ),
+        ("a merit pool", "pool,quota,parent,kind\nA,1,,merit\n"),
+        (
+            "a letter that isn't ASCII",
+            "pool,quota,parent,kind\nÁ,1,,score\n",
+        ),
+    ] {
+        let case = Case {
+            name,
+            pools,
+            programmes: TWO_PROGRAMMES,
+            applications: DISPLACED,
+            status: 3,
+            out: "",
+            err: "pools: not in the plain form\n",
+        };
+        let (status, out, err) = cleared(rt.alloc(), &case, 1000)?;
+        assert_eq!(rt; status, case.status, "{}", case.name);
+        assert_eq!(rt; out.bytes(), case.out.as_bytes(), "{}", case.name);
+        assert_eq!(rt; err.bytes(), case.err.as_bytes(), "{}", case.name);
+    }
+    Ok(())
+}
+
+#[test]
+fn later_tables_in_another_form(rt: HostRuntime) -> Result<(), Fail> {
+    for (name, programmes, applications, err) in [
+        (
+            "an unknown pool",
+            "programme,pool\na,Z\n",
+            DISPLACED,
+            "programmes: not in the plain form\n",
+        ),
+        (
+            "a repeated programme",
+            "programme,pool\na,A\na,B\n",
+            DISPLACED,
+            "programmes: not in the plain form\n",
+        ),
+        (
+            "an unknown programme",
+            TWO_PROGRAMMES,
+            "applicant,place,programme,score\nx,1,q,10\n",
+            "applications: not in the plain form\n",
+        ),
+        (
+            "a place of 0",
+            TWO_PROGRAMMES,
+            "applicant,place,programme,score\nx,0,a,10\n",
+            "applications: not in the plain form\n",
+        ),
+        (
+            "a score above the greatest",
+            TWO_PROGRAMMES,
+            "applicant,place,programme,score\nx,1,a,1000001\n",
+            "applications: not in the plain form\n",
+        ),
+        (
+            "places that fall",
+            TWO_PROGRAMMES,
+            "applicant,place,programme,score\nx,2,a,10\nx,1,b,10\n",
+            "applications: not in the plain form\n",
+        ),
+        (
+            "a programme twice",
+            TWO_PROGRAMMES,
+            "applicant,place,programme,score\nx,1,a,10\nx,2,a,9\n",
+            "applications: not in the plain form\n",
+        ),
+        (
+            "rows apart",
+            TWO_PROGRAMMES,
+            "applicant,place,programme,score\nx,1,a,10\ny,1,a,9\nx,2,b,9\n",
+            "applications: not in the plain form\n",
+        ),
+    ] {
+        let case = Case {
+            name,
+            pools: TWO_POOLS,
+            programmes,
+            applications,
+            status: 3,
+            out: "",
+            err,
+        };
+        let (status, out, line) = cleared(rt.alloc(), &case, 1000)?;
+        assert_eq!(rt; status, case.status, "{}", case.name);
+        assert_eq!(rt; out.bytes(), case.out.as_bytes(), "{}", case.name);
+        assert_eq!(rt; line.bytes(), case.err.as_bytes(), "{}", case.name);
+    }
+    Ok(())
+}
+
+#[test]
+fn narrow_sink(rt: HostRuntime) -> Result<(), Fail> {
+    let case = Case {
+        name: "narrow sink",
+        pools: TWO_POOLS,
+        programmes: TWO_PROGRAMMES,
+        applications: DISPLACED,
+        status: 5,
+        out: "result,1,,\nrule,H,,\n",
+        err: "output: cannot be written\n",
+    };
+    let (status, out, err) = cleared(rt.alloc(), &case, 20)?;
+    assert_eq!(rt; status, case.status);
+    assert_eq!(rt; out.bytes(), case.out.as_bytes());
+    assert_eq!(rt; err.bytes(), case.err.as_bytes());
+    Ok(())
+}
+
+#[test]
+fn faulty_words(rt: HostRuntime) -> Result<(), Fail> {
+    for words in [
+        [].as_slice(),
+        ["clear"].as_slice(),
+        ["clear", "H", "1", "pools", "programmes"].as_slice(),
+        ["clear", "H", "0", "pools", "programmes", "applications"].as_slice(),
+        ["clear", "H", "65", "pools", "programmes", "applications"].as_slice(),
+        ["clear", "H", "01", "pools", "programmes", "applications"].as_slice(),
+        ["clear", "L", "1", "pools", "programmes", "applications"].as_slice(),
+        ["check", "H", "1", "pools", "programmes", "applications"].as_slice(),
+        [
+            "clear",
+            "H",
+            "1",
+            "pools",
+            "programmes",
+            "applications",
+            "more",
+        ]
+        .as_slice(),
+    ] {
+        let words = words_of(rt.alloc(), words)?;
+        let mut shelf = shelf_of(rt.alloc(), TWO_POOLS, TWO_PROGRAMMES, DISPLACED, &[])?;
+        let mut out = MemSink::new(rt.alloc(), 1000)?;
+        let mut err = MemSink::new(rt.alloc(), 1000)?;
+        assert_eq!(rt; run(rt.alloc(), &words, &mut shelf, &mut out, &mut err), 2);
+        assert_eq!(rt; out.bytes(), b"".as_slice());
+        let line = b"scorelimits: the words are not a command form\n";
+        assert_eq!(rt; err.bytes(), line.as_slice());
+    }
+    Ok(())
+}
+
+#[test]
+fn files_that_fail(rt: HostRuntime) -> Result<(), Fail> {
+    for (call, line) in [
+        (1, "pools: cannot be read\n"),
+        (2, "programmes: cannot be read\n"),
+        (3, "applications: cannot be read\n"),
+    ] {
+        let words = words_of(rt.alloc(), &CLEAR)?;
+        let mut shelf = shelf_of(rt.alloc(), TWO_POOLS, TWO_PROGRAMMES, DISPLACED, &[call])?;
+        let mut out = MemSink::new(rt.alloc(), 1000)?;
+        let mut err = MemSink::new(rt.alloc(), 1000)?;
+        assert_eq!(rt; run(rt.alloc(), &words, &mut shelf, &mut out, &mut err), 4);
+        assert_eq!(rt; out.bytes(), b"".as_slice());
+        assert_eq!(rt; err.bytes(), line.as_bytes());
+    }
+    Ok(())
+}
