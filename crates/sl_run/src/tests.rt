@@ -1,6 +1,7 @@
 use super::*;
 use sl_io::{MemShelf, MemSink};
 use std::alloc::{AllocError, Global};
+use std::process::Abort;
 use std::test::Fail;
 
 // A command over three tables in memory, and what it is to end with.
@@ -61,14 +62,28 @@ fn shelf_of(
 
 const CLEAR: [&str; 6] = ["clear", "H", "1", "pools", "programmes", "applications"];
 
+fn is_text(found: &[u8], wanted: &str) -> bool {
+    found == wanted.as_bytes()
+}
+
 // Runs `clear H 1` over three tables, into a sink with this much room.
-fn cleared(alloc: Global, case: &Case, room: usize) -> Result<(u8, MemSink, MemSink), Fail> {
-    let words = words_of(alloc, &CLEAR)?;
-    let mut shelf = shelf_of(alloc, case.pools, case.programmes, case.applications, &[])?;
-    let mut out = MemSink::new(alloc, room)?;
-    let mut err = MemSink::new(alloc, 1000)?;
-    let status = run(alloc, &words, &mut shelf, &mut out, &mut err);
-    Ok((status, out, err))
+fn expect<R: Abort + AllocGlobal>(rt: &R, case: &Case, room: usize) -> Result<(), Fail> {
+    let words = words_of(rt.alloc(), &CLEAR)?;
+    let mut shelf = shelf_of(
+        rt.alloc(),
+        case.pools,
+        case.programmes,
+        case.applications,
+        &[],
+    )?;
+    let mut out = MemSink::new(rt.alloc(), room)?;
+    let mut err = MemSink::new(rt.alloc(), 1000)?;
+    let status = run(rt.alloc(), &words, &mut shelf, &mut out, &mut err);
+    let name = case.name;
+    assert_eq!(rt; status, case.status, "{name}");
+    assert!(rt; is_text(out.bytes(), case.out), "{name}");
+    assert!(rt; is_text(err.bytes(), case.err), "{name}");
+    Ok(())
 }
 
 #[test]
@@ -138,10 +153,7 @@ fn worked_examples(rt: HostRuntime) -> Result<(), Fail> {
             err: "",
         },
     ] {
-        let (status, out, err) = cleared(rt.alloc(), &case, 1000)?;
-        assert_eq!(rt; status, case.status, "{}", case.name);
-        assert_eq!(rt; out.bytes(), case.out.as_bytes(), "{}", case.name);
-        assert_eq!(rt; err.bytes(), case.err.as_bytes(), "{}", case.name);
+        expect(&rt, &case, 1000)?;
     }
     Ok(())
 }
@@ -200,10 +212,7 @@ fn tables_in_another_form(rt: HostRuntime) -> Result<(), Fail> {
             out: "",
             err: "pools: not in the plain form\n",
         };
-        let (status, out, err) = cleared(rt.alloc(), &case, 1000)?;
-        assert_eq!(rt; status, case.status, "{}", case.name);
-        assert_eq!(rt; out.bytes(), case.out.as_bytes(), "{}", case.name);
-        assert_eq!(rt; err.bytes(), case.err.as_bytes(), "{}", case.name);
+        expect(&rt, &case, 1000)?;
     }
     Ok(())
 }
@@ -269,10 +278,7 @@ fn later_tables_in_another_form(rt: HostRuntime) -> Result<(), Fail> {
             out: "",
             err,
         };
-        let (status, out, line) = cleared(rt.alloc(), &case, 1000)?;
-        assert_eq!(rt; status, case.status, "{}", case.name);
-        assert_eq!(rt; out.bytes(), case.out.as_bytes(), "{}", case.name);
-        assert_eq!(rt; line.bytes(), case.err.as_bytes(), "{}", case.name);
+        expect(&rt, &case, 1000)?;
     }
     Ok(())
 }
@@ -288,25 +294,48 @@ fn narrow_sink(rt: HostRuntime) -> Result<(), Fail> {
         out: "result,1,,\nrule,H,,\n",
         err: "output: cannot be written\n",
     };
-    let (status, out, err) = cleared(rt.alloc(), &case, 20)?;
-    assert_eq!(rt; status, case.status);
-    assert_eq!(rt; out.bytes(), case.out.as_bytes());
-    assert_eq!(rt; err.bytes(), case.err.as_bytes());
+    expect(&rt, &case, 20)
+}
+
+fn expect_faulty<R: Abort + AllocGlobal>(rt: &R, words: &[&str]) -> Result<(), Fail> {
+    let words = words_of(rt.alloc(), words)?;
+    let mut shelf = shelf_of(rt.alloc(), TWO_POOLS, TWO_PROGRAMMES, DISPLACED, &[])?;
+    let mut out = MemSink::new(rt.alloc(), 1000)?;
+    let mut err = MemSink::new(rt.alloc(), 1000)?;
+    let status = run(rt.alloc(), &words, &mut shelf, &mut out, &mut err);
+    let line = "scorelimits: the words are not a command form\n";
+    assert_eq!(rt; status, 2);
+    assert!(rt; is_text(out.bytes(), ""));
+    assert!(rt; is_text(err.bytes(), line));
     Ok(())
 }
 
 #[test]
 fn faulty_words(rt: HostRuntime) -> Result<(), Fail> {
-    for words in [
-        [].as_slice(),
-        ["clear"].as_slice(),
-        ["clear", "H", "1", "pools", "programmes"].as_slice(),
-        ["clear", "H", "0", "pools", "programmes", "applications"].as_slice(),
-        ["clear", "H", "65", "pools", "programmes", "applications"].as_slice(),
-        ["clear", "H", "01", "pools", "programmes", "applications"].as_slice(),
-        ["clear", "L", "1", "pools", "programmes", "applications"].as_slice(),
-        ["check", "H", "1", "pools", "programmes", "applications"].as_slice(),
-        [
+    expect_faulty(&rt, &[])?;
+    expect_faulty(&rt, &["clear", "H", "1", "pools", "programmes"])?;
+    for (command, rule, workers) in [
+        ("clear", "H", "0"),
+        ("clear", "H", "65"),
+        ("clear", "H", "01"),
+        ("clear", "L", "1"),
+        ("check", "H", "1"),
+    ] {
+        expect_faulty(
+            &rt,
+            &[
+                command,
+                rule,
+                workers,
+                "pools",
+                "programmes",
+                "applications",
+            ],
+        )?;
+    }
+    expect_faulty(
+        &rt,
+        &[
             "clear",
             "H",
             "1",
@@ -314,19 +343,8 @@ fn faulty_words(rt: HostRuntime) -> Result<(), Fail> {
             "programmes",
             "applications",
             "more",
-        ]
-        .as_slice(),
-    ] {
-        let words = words_of(rt.alloc(), words)?;
-        let mut shelf = shelf_of(rt.alloc(), TWO_POOLS, TWO_PROGRAMMES, DISPLACED, &[])?;
-        let mut out = MemSink::new(rt.alloc(), 1000)?;
-        let mut err = MemSink::new(rt.alloc(), 1000)?;
-        assert_eq!(rt; run(rt.alloc(), &words, &mut shelf, &mut out, &mut err), 2);
-        assert_eq!(rt; out.bytes(), b"".as_slice());
-        let line = b"scorelimits: the words are not a command form\n";
-        assert_eq!(rt; err.bytes(), line.as_slice());
-    }
-    Ok(())
+        ],
+    )
 }
 
 #[test]
@@ -341,8 +359,8 @@ fn files_that_fail(rt: HostRuntime) -> Result<(), Fail> {
         let mut out = MemSink::new(rt.alloc(), 1000)?;
         let mut err = MemSink::new(rt.alloc(), 1000)?;
         assert_eq!(rt; run(rt.alloc(), &words, &mut shelf, &mut out, &mut err), 4);
-        assert_eq!(rt; out.bytes(), b"".as_slice());
-        assert_eq!(rt; err.bytes(), line.as_bytes());
+        assert!(rt; is_text(out.bytes(), ""));
+        assert!(rt; is_text(err.bytes(), line));
     }
     Ok(())
 }
