@@ -10,7 +10,7 @@ use Rattle.sl_types.specs.Market.{Market, rule_of, no_pool, lies_in}
 use Rattle.sl_types.specs.WellFormed.{IsWellFormed}
 use Rattle.sl_laws.specs.Limits.{Limits, effective_limit}
 use Rattle.sl_laws.specs.Stable.{IsStable, Meets, IsJustified, IsJustifiedBy, IsSettled}
-use Rattle.sl_laws.specs.Raises.{IsSound, IsVoid, Each, zeros, raised, raised_by, reached, unvoid}
+use Rattle.sl_laws.specs.Raises.{IsSound, IsVoid, EachRaise, zeros, after_raise, after_raises, limits_after, without_void_from}
 use Rattle.sl_laws.specs.Laws.{IsScorePool, AtMost, PassesNoStableLimit, StaysJustified, DropsVoid, DecidingIsJustified, SoundPassesNone, ProvesTheLeast}
 use Rattle.sl_laws.proofs.Effective.{with_limit_here, with_limit_else, effective_alone, among, round_alone}
 use Rattle.sl_laws.proofs.Score.{score_passes_none, stays_by}
@@ -65,27 +65,27 @@ module _ (market : Market) (ok : IsWellFormed market) where
   own : (t : Limits) → IsMade t → (P : ℕ) → P < length market.pools → IsPeak market t P → IsJustified market t P (t P)
   own t made P P_in peak = own_at t made P P_in peak (rule_of market P) refl
 
-  up_to : (t : Limits) (r : Raise) → AtMost market t (raised t r)
-  up_to t r = at_most_by market t (raised t r) (raised_up t r)
+  up_to : (t : Limits) (r : Raise) → AtMost market t (after_raise t r)
+  up_to t r = at_most_by market t (after_raise t r) (raised_up t r)
 
   -- a number that a raise leaves was made before it
-  made_kept : (t : Limits) (r : Raise) → IsMade t → (P : ℕ) → P < length market.pools → IsPeak market (raised t r) P → raised t r P ≡ t P → (s : Limits) × AtMost market s (raised t r) × IsJustified market s P (raised t r P)
+  made_kept : (t : Limits) (r : Raise) → IsMade t → (P : ℕ) → P < length market.pools → IsPeak market (after_raise t r) P → after_raise t r P ≡ t P → (s : Limits) × AtMost market s (after_raise t r) × IsJustified market s P (after_raise t r P)
   made_kept t r made P P_in peak e =
       let first = peak.0 in
       let m = made P P_in (omega (arith, first, e), λ Q up ne. let a = raised_up t r Q in let b = peak.1 Q up ne in omega (arith, a, b, e)) in
       (m.0, (λ Q Q_in. let a = m.1 Q Q_in in let b = up_to t r Q Q_in in omega (arith, a, b)), subst (λ (x : ℕ). IsJustified market m.0 P x) (sym e) m.2)
 
-  made_on : (t : Limits) (r : Raise) → IsVoid market t r ⊎ IsJustified market t r.pool.0 r.limit → IsMade t → IsMade (raised t r)
+  made_on : (t : Limits) (r : Raise) → IsVoid market t r ⊎ IsJustified market t r.pool.0 r.limit → IsMade t → IsMade (after_raise t r)
   made_on t r fair made P P_in peak = elim (cases_Bool (nat_eq P r.pool.0)) [
     | inr other ↦ made_kept t r made P P_in peak (with_limit_else t r.pool.0 (max (t r.pool.0) r.limit) P other)
     | inl same ↦
         let is : P ≡ r.pool.0 = eqb-true P r.pool.0 same in
-        let e : raised t r P ≡ max (t r.pool.0) r.limit = ap (raised t r) is ∙ with_limit_here t r.pool.0 (max (t r.pool.0) r.limit) in
+        let e : after_raise t r P ≡ max (t r.pool.0) r.limit = ap (after_raise t r) is ∙ with_limit_here t r.pool.0 (max (t r.pool.0) r.limit) in
         let f : t P ≡ t r.pool.0 = ap t is in
         elim (cases_lt (t r.pool.0) r.limit) [
           | inr low ↦ made_kept t r made P P_in peak (omega (arith, e, f, low))
           | inl high ↦
-              let g : raised t r P ≡ r.limit = omega (arith, e, high) in
+              let g : after_raise t r P ≡ r.limit = omega (arith, e, high) in
               elim fair [
                 | inr just ↦ (t, up_to t r, subst (λ (x : ℕ). IsJustified market t P x) (sym g) (subst (λ (Q : ℕ). IsJustified market t Q r.limit) (sym is) just))
                 | inl void ↦ elim (deciding market ok t r.pool.0) [
@@ -100,40 +100,40 @@ module _ (market : Market) (ok : IsWellFormed market) where
         ]
   ]
 
-  made_by : (t : Limits) (c : List Raise) → Each market (λ t r. IsVoid market t r ⊎ IsJustified market t r.pool.0 r.limit) t c → IsMade t → IsMade (raised_by t c)
+  made_by : (t : Limits) (c : List Raise) → EachRaise market (λ t r. IsVoid market t r ⊎ IsJustified market t r.pool.0 r.limit) t c → IsMade t → IsMade (after_raises t c)
   made_by t [] each made = made
-  made_by t (r ∷ c) each made = made_by (raised t r) c each.2 (made_on t r each.1 made)
+  made_by t (r ∷ c) each made = made_by (after_raise t r) c each.2 (made_on t r each.1 made)
 
   made_zeros : IsMade zeros
   made_zeros P P_in peak = let h = peak.0 in absurd (omega (arith, h))
 
-  made_sound : (c : List Raise) → IsSound market c → IsMade (reached c)
+  made_sound : (c : List Raise) → IsSound market c → IsMade (limits_after c)
   made_sound c sound = made_by zeros c sound made_zeros
 
   -- Void raises.
 
-  same_raised : (t u : Limits) (r : Raise) → AtMost market t u → AtMost market (raised t r) (raised u r)
-  same_raised t u r most Q Q_in = limit_le market (raised t r) Q (effective_limit market (raised u r) Q) (λ R up.
-      let k = le_limit market (raised u r) Q R up in
+  same_raised : (t u : Limits) (r : Raise) → AtMost market t u → AtMost market (after_raise t r) (after_raise u r)
+  same_raised t u r most Q Q_in = limit_le market (after_raise t r) Q (effective_limit market (after_raise u r) Q) (λ R up.
+      let k = le_limit market (after_raise u r) Q R up in
       let m = most Q Q_in in
       let a = le_limit market t Q R up in
       let b = up_to u r Q Q_in in
-      raised_at (λ S x. (effective_limit market t Q ≤ effective_limit market (raised u r) Q) → (t S ≤ effective_limit market (raised u r) Q) → (raised u r S ≤ effective_limit market (raised u r) Q) → x ≤ effective_limit market (raised u r) Q) t r
+      raised_at (λ S x. (effective_limit market t Q ≤ effective_limit market (after_raise u r) Q) → (t S ≤ effective_limit market (after_raise u r) Q) → (after_raise u r S ≤ effective_limit market (after_raise u r) Q) → x ≤ effective_limit market (after_raise u r) Q) t r
       (λ S h i j. i) (λ h i j. let e = with_limit_here u r.pool.0 (max (u r.pool.0) r.limit) in omega (arith, i, j, e)) R (omega (arith, m, b)) (omega (arith, a, m, b)) k)
 
-  void_low : (t : Limits) (r : Raise) → IsVoid market t r → AtMost market (raised t r) t
-  void_low t r void Q Q_in = limit_le market (raised t r) Q (effective_limit market t Q) (λ R up.
+  void_low : (t : Limits) (r : Raise) → IsVoid market t r → AtMost market (after_raise t r) t
+  void_low t r void Q Q_in = limit_le market (after_raise t r) Q (effective_limit market t Q) (λ R up.
       raised_at (λ S x. lies_in market Q S ≡ true → x ≤ effective_limit market t Q) t r (λ S h. le_limit market t Q S h)
       (λ h. let a = le_limit market t Q r.pool.0 h in let b = limit_in market ok t Q r.pool.0 h in omega (arith, a, b, void)) R up)
 
-  unvoid_replays : (t u : Limits) (c : List Raise) → AtMost market t u → AtMost market u t → IsMade u → Each market (λ t r. IsVoid market t r ⊎ IsJustified market t r.pool.0 r.limit) t c
-      → Each market (λ t r. (effective_limit market t r.pool.0 < r.limit) × IsJustified market t r.pool.0 r.limit) u (unvoid market t c)
-      × AtMost market (raised_by t c) (raised_by u (unvoid market t c)) × AtMost market (raised_by u (unvoid market t c)) (raised_by t c)
+  unvoid_replays : (t u : Limits) (c : List Raise) → AtMost market t u → AtMost market u t → IsMade u → EachRaise market (λ t r. IsVoid market t r ⊎ IsJustified market t r.pool.0 r.limit) t c
+      → EachRaise market (λ t r. (effective_limit market t r.pool.0 < r.limit) × IsJustified market t r.pool.0 r.limit) u (without_void_from market t c)
+      × AtMost market (after_raises t c) (after_raises u (without_void_from market t c)) × AtMost market (after_raises u (without_void_from market t c)) (after_raises t c)
   unvoid_replays t u [] most least made each = (tt, most, least)
   unvoid_replays t u (r ∷ c) most least made each = elim (cases_Bool (nat_le r.limit (effective_limit market t r.pool.0))) [
     | inl void ↦
         let low = leb-true r.limit (effective_limit market t r.pool.0) void in
-        let rest = unvoid_replays (raised t r) u c
+        let rest = unvoid_replays (after_raise t r) u c
         (λ Q Q_in. let a = void_low t r low Q Q_in in let b = most Q Q_in in omega (arith, a, b))
         (λ Q Q_in. let a = up_to t r Q Q_in in let b = least Q Q_in in omega (arith, a, b)) made each.2 in
         rw void rest
@@ -142,7 +142,7 @@ module _ (market : Market) (ok : IsWellFormed market) where
         let low = least r.pool.0 each.0 in
         let just : IsJustified market t r.pool.0 r.limit = ⊎_elim (λ (void : IsVoid market t r). absurd (omega (arith, void, high))) (λ j. j) each.1 in
         let just' : IsJustified market u r.pool.0 r.limit = ⊎_elim (λ (void : r.limit ≤ effective_limit market u r.pool.0). absurd (omega (arith, void, high, low))) (λ j. j) (stays u made t most r.pool.0 r.limit just) in
-        let rest = unvoid_replays (raised t r) (raised u r) c (same_raised t u r most) (same_raised u t r least) (made_on u r (inr just') made) each.2 in
+        let rest = unvoid_replays (after_raise t r) (after_raise u r) c (same_raised t u r most) (same_raised u t r least) (made_on u r (inr just') made) each.2 in
         rw new ((each.0, (omega (arith, high, low), just'), rest.0), rest.1, rest.2)
   ]
 
@@ -153,7 +153,7 @@ module _ (market : Market) (ok : IsWellFormed market) where
   passes_at l r stable most P x P_in L is j = score_passes_none market ok l r stable most P x P_in (score_of P L is l_plain) j
   passes_at l r stable most P x P_in Merit is j = passes_no_stable market ok l stable r (λ Q Q_in. let a = (stable Q Q_in).0 in let b = most Q Q_in in omega (arith, a, b)) P P_in is x (asked_of r P x Merit is j)
 
-  all_low_of : (c : List Raise) → IsSound market c → (l : Limits) → IsStable market l → (P : ℕ) → reached c P ≤ l P
+  all_low_of : (c : List Raise) → IsSound market c → (l : Limits) → IsStable market l → (P : ℕ) → limits_after c P ≤ l P
   all_low_of c sound l stable P = all_low market l stable
       (λ t most Q x Q_in just. passes_at l t stable (λ R R_in. let up = most R R_in in let same = (stable R R_in).0 in omega (arith, up, same)) Q x Q_in (rule_of market Q) refl just)
       zeros c (λ Q. omega arith) sound P
@@ -207,7 +207,7 @@ passes_no_stable_limit market ok l r stable most P x P_in j = passes_at market o
 
 -- a justified raise stays justified until it is overtaken
 pub stays_justified : (market : Market) → IsWellFormed market → StaysJustified market
-stays_justified market ok c sound r most P x j = stays market ok (reached c) (made_sound market ok c sound) r most P x j
+stays_justified market ok c sound r most P x j = stays market ok (limits_after c) (made_sound market ok c sound) r most P x j
 
 -- void raises can be dropped
 pub drops_void : (market : Market) → IsWellFormed market → DropsVoid market
@@ -217,7 +217,7 @@ drops_void market ok c sound =
 
 -- the number that decides a pool's limit is itself justified
 pub deciding_is_justified : (market : Market) → IsWellFormed market → DecidingIsJustified market
-deciding_is_justified market ok c sound P P_in some' over = own market ok (reached c) (made_sound market ok c sound) P P_in (some', over)
+deciding_is_justified market ok c sound P P_in some' over = own market ok (limits_after c) (made_sound market ok c sound) P P_in (some', over)
 
 -- no sound list passes a stable limit
 pub sound_passes_none : (market : Market) → IsWellFormed market → SoundPassesNone market
@@ -227,10 +227,10 @@ sound_passes_none market ok c sound l stable P = all_low_of market ok c sound l 
 pub proves_the_least : (market : Market) → IsWellFormed market → ProvesTheLeast market
 proves_the_least market ok c l proves =
     let sound : IsSound market c = sound_by_replay market zeros c proves.0 in (
-      stable_of market ok (reached c) l (made_sound market ok c sound) (λ P P_in. (proves.1 P P_in).0) (λ P P_in. (proves.1 P P_in).1),
+      stable_of market ok (limits_after c) l (made_sound market ok c sound) (λ P P_in. (proves.1 P P_in).0) (λ P P_in. (proves.1 P P_in).1),
       λ m stable P P_in.
           let at = (proves.1 P P_in).1 in
-          let low = limit_le market (reached c) P (m P) (λ Q up.
+          let low = limit_le market (limits_after c) P (m P) (λ Q up.
           let a = all_low_of market ok c sound m stable Q in
           let b = le_limit market m P Q up in
           let e = (stable P P_in).0 in

@@ -6,7 +6,7 @@ use Rattle.sl_types.specs.declared.kinds.Rule.TheVariants.{H, L, Merit}
 use Rattle.sl_types.specs.declared.kinds.TheConstants.{MAX_SCORE}
 use Rattle.sl_types.specs.Market.{Market, quota_of, rule_of}
 use Rattle.sl_types.specs.WellFormed.{IsWellFormed}
-use Rattle.sl_laws.specs.Raises.{reached}
+use Rattle.sl_laws.specs.Raises.{limits_after}
 use Rattle.sl_laws.specs.Limits.{Limits, with_limit, effective_limit, demand, capped_demand}
 use Rattle.sl_laws.specs.Stable.{IsJustified, IsJustifiedBy}
 use Rattle.sl_laws.specs.Best.{is_justified, is_justified_by, last_passing, best_raise}
@@ -65,11 +65,11 @@ best_decides market ok t P x P_in some' = (
 -- whether a pool is settled at what sound lists reach depends on effective limits alone
 pub settled_alike : (market : Market) → IsWellFormed market → SettledAlike market
 settled_alike market ok c d sound sound' same P P_in settled j =
-    let x : ℕ = effective_limit market (reached d) P + 1 in
+    let x : ℕ = effective_limit market (limits_after d) P + 1 in
     let e = same P P_in in
-    elim (stays_justified market ok c sound (reached d) (λ Q Q_in. let k = same Q Q_in in omega (arith, k)) P x j) [
+    elim (stays_justified market ok c sound (limits_after d) (λ Q Q_in. let k = same Q Q_in in omega (arith, k)) P x j) [
       | inl low ↦ absurd (omega (arith, low, e))
-      | inr just ↦ settled (subst (λ (y : ℕ). IsJustified market (reached c) P (y + 1)) (sym e) just)
+      | inr just ↦ settled (subst (λ (y : ℕ). IsJustified market (limits_after c) P (y + 1)) (sym e) just)
     ]
 
 justified_at : (rule : Rule) (market : Market) (t : Limits) (P x : ℕ) → rule_of market P ≡ rule → IsJustified market t P x ↔ IsJustifiedBy rule market t P x

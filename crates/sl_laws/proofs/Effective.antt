@@ -5,9 +5,9 @@ use Rattle.std.specs.List.{list_any}
 use Rattle.sl_types.specs.declared.kinds.PoolId.{PoolId}
 use Rattle.sl_types.specs.declared.kinds.Rule.TheVariants.{Merit}
 use Rattle.sl_types.specs.declared.kinds.TheConstants.{MAX_DEPTH}
-use Rattle.sl_types.specs.Market.{Market, pool_of, parent_of, rule_of, climb, outward, pools_round, lies_in}
+use Rattle.sl_types.specs.Market.{Market, pool_of, parent_of, rule_of, climb, outward, chain_of, lies_in}
 use Rattle.sl_types.specs.WellFormed.{IsWellFormed}
-use Rattle.sl_laws.specs.Limits.{Limits, with_limit, greatest, effective_limit, is_eligible, is_admitted_in, count_in}
+use Rattle.sl_laws.specs.Limits.{Limits, with_limit, greatest_of, effective_limit, is_eligible, is_admitted_in, count_in}
 use Rattle.sl_laws.proofs.Choices.{filter_more, admits_more}
 
 -- a number of a list, as a test
@@ -15,7 +15,7 @@ abbrev pub among : ℕ → List ℕ → Bool
 among Q xs = list_any (λ R. nat_eq R Q) xs
 
 -- the greatest of a list rises with its numbers
-pub greatest_more : (f g : ℕ → ℕ) (xs : List ℕ) → ((Q : ℕ) → among Q xs ≡ true → f Q ≤ g Q) → greatest f xs ≤ greatest g xs
+pub greatest_more : (f g : ℕ → ℕ) (xs : List ℕ) → ((Q : ℕ) → among Q xs ≡ true → f Q ≤ g Q) → greatest_of f xs ≤ greatest_of g xs
 greatest_more f g [] h = omega arith
 greatest_more f g (x ∷ xs) h =
     let here : f x ≤ g x = h x (or_left (nat_eq x x) (among x xs) (eq-eqb x x refl)) in
@@ -23,7 +23,7 @@ greatest_more f g (x ∷ xs) h =
     omega (arith, here, rest)
 
 -- and is the same where they are
-pub greatest_same : (f g : ℕ → ℕ) (xs : List ℕ) → ((Q : ℕ) → among Q xs ≡ true → f Q ≡ g Q) → greatest f xs ≡ greatest g xs
+pub greatest_same : (f g : ℕ → ℕ) (xs : List ℕ) → ((Q : ℕ) → among Q xs ≡ true → f Q ≡ g Q) → greatest_of f xs ≡ greatest_of g xs
 greatest_same f g [] h = refl
 greatest_same f g (x ∷ xs) h =
     let here : f x ≡ g x = h x (or_left (nat_eq x x) (among x xs) (eq-eqb x x refl)) in
@@ -40,8 +40,8 @@ with_limit_else t P y Q h = rw h refl
 
 -- outside P its own number doesn't matter
 pub effective_outside : (market : Market) (t : Limits) (P y C : ℕ) → lies_in market C P ≡ false → effective_limit market (with_limit t P y) C ≡ effective_limit market t C
-effective_outside market t P y C out = greatest_same (with_limit t P y) t (pools_round market C) (λ Q h. elim (cases_Bool (nat_eq Q P)) [
-  | inl same ↦ let is : Q ≡ P = eqb-true Q P same in absurd (true≢false (sym (subst (λ R. among R (pools_round market C) ≡ true) is h) ∙ out))
+effective_outside market t P y C out = greatest_same (with_limit t P y) t (chain_of market C) (λ Q h. elim (cases_Bool (nat_eq Q P)) [
+  | inl same ↦ let is : Q ≡ P = eqb-true Q P same in absurd (true≢false (sym (subst (λ R. among R (chain_of market C) ≡ true) is h) ∙ out))
   | inr other ↦ with_limit_else t P y Q other
 ])
 
@@ -51,13 +51,13 @@ module _ (market : Market) (ok : IsWellFormed market) (P : ℕ) (score : rule_of
   outward_alone f (Some Q) e = absurd (score (ok.nesting P Q e).0)
 
   -- no pool is round a score pool
-  pub round_alone : pools_round market P ≡ P ∷ []
-  unfolding pools_round
+  pub round_alone : chain_of market P ≡ P ∷ []
+  unfolding chain_of
   round_alone = ap (λ Qs. P ∷ Qs) (outward_alone (climb market (MAX_DEPTH - 1)) (parent_of market P) refl)
 
   -- a score pool's effective limit is its own number
   pub effective_alone : (t : Limits) → effective_limit market t P ≡ t P
-  effective_alone t = ap (greatest t) round_alone ∙ omega arith
+  effective_alone t = ap (greatest_of t) round_alone ∙ omega arith
 
   -- and none is inside
   climbs_on : (f : ℕ → List ℕ) → ((Q : ℕ) → among P (f Q) ≡ true → Q ≡ P) → (C : ℕ) (o : Option PoolId) → parent_of market C ≡ o → among P (outward f o) ≡ true → C ≡ P
@@ -74,7 +74,7 @@ module _ (market : Market) (ok : IsWellFormed market) (P : ℕ) (score : rule_of
 
   -- no other pool lies inside a score pool
   pub inside_alone : (C : ℕ) → lies_in market C P ≡ true → C ≡ P
-  unfolding pools_round
+  unfolding chain_of
   inside_alone C h = climbs_past MAX_DEPTH C h
 
 -- counts rise where limits inside P fall and the others rise

@@ -7,11 +7,11 @@ use Rattle.sl_types.specs.declared.kinds.Raise.{Raise}
 use Rattle.sl_types.specs.declared.kinds.Rule.{Rule}
 use Rattle.sl_types.specs.declared.kinds.Rule.TheVariants.{H, L, Merit}
 use Rattle.sl_types.specs.declared.kinds.TheConstants.{MAX_SCORE}
-use Rattle.sl_types.specs.Market.{Market, climb, pools_round}
+use Rattle.sl_types.specs.Market.{Market, climb, chain_of}
 use Rattle.sl_types.specs.Valid.{IsValid}
 use Rattle.sl_laws.specs.Limits.{Limits, effective_limit, count_in, capped_demand}
 use Rattle.sl_laws.specs.Stable.{IsStable, IsLeastStable, IsJustified, IsSettled, MeetsL}
-use Rattle.sl_laws.specs.Raises.{Proves, zeros, reached}
+use Rattle.sl_laws.specs.Raises.{Proves, zeros, limits_after}
 
 abbrev score_pool : Rule → ℕ → Pool
 score_pool rule q = record { quota = q; parent = None; rule = rule }
@@ -40,7 +40,7 @@ both_prefer = record {
 }
 
 both_prefer_stable : IsStable both_prefer (limits (9 ∷ 9 ∷ []))
-unfolding pools_round
+unfolding chain_of
 both_prefer_stable zero h = (refl, (lit≤ tt, inr (lit< tt)))
 both_prefer_stable (suc zero) h = (refl, (lit≤ tt, inr (lit< tt)))
 both_prefer_stable (suc (suc P)) h = absurd (omega arith)
@@ -54,9 +54,9 @@ displaced_twice = record {
 }
 
 displaced_twice_proves : Proves displaced_twice (raise 1 10 ∷ raise 0 11 ∷ raise 1 11 ∷ []) (limits (11 ∷ 11 ∷ []))
-unfolding pools_round
+unfolding chain_of
 displaced_twice_proves = ((lit< tt, (lit< tt, lit< tt), (lit< tt, (lit< tt, lit< tt), (lit< tt, (lit< tt, lit< tt), tt))), settled) where
-  settled : (P : ℕ) → P < 2 → IsSettled displaced_twice (reached (raise 1 10 ∷ raise 0 11 ∷ raise 1 11 ∷ [])) P × (effective_limit displaced_twice (reached (raise 1 10 ∷ raise 0 11 ∷ raise 1 11 ∷ [])) P ≡ limits (11 ∷ 11 ∷ []) P)
+  settled : (P : ℕ) → P < 2 → IsSettled displaced_twice (limits_after (raise 1 10 ∷ raise 0 11 ∷ raise 1 11 ∷ [])) P × (effective_limit displaced_twice (limits_after (raise 1 10 ∷ raise 0 11 ∷ raise 1 11 ∷ [])) P ≡ limits (11 ∷ 11 ∷ []) P)
   settled zero h = ((λ j. omega arith), refl)
   settled (suc zero) h = ((λ j. omega arith), refl)
   settled (suc (suc P)) h = absurd (omega arith)
@@ -70,18 +70,18 @@ nested = record {
 }
 
 nested_stable : IsStable nested (limits (7 ∷ 9 ∷ 7 ∷ []))
-unfolding pools_round
+unfolding chain_of
 nested_stable zero h = (refl, (lit≤ tt, refl))
 nested_stable (suc zero) h = (refl, (lit≤ tt, refl))
 nested_stable (suc (suc zero)) h = (refl, (lit≤ tt, refl))
 nested_stable (suc (suc (suc P))) h = absurd (omega arith)
 
 nested_demand : capped_demand nested zeros 0 8 ≡ 1
-unfolding capped_demand pools_round
+unfolding capped_demand chain_of
 nested_demand = refl
 
 nested_demand' : capped_demand nested zeros 0 7 ≡ 2
-unfolding capped_demand pools_round
+unfolding capped_demand chain_of
 nested_demand' = refl
 
 -- a crossing tie, by rule H and by rule L
@@ -93,30 +93,30 @@ crossing_tie rule = record {
 }
 
 tie_proves : Proves (crossing_tie H) (raise 0 11 ∷ []) (limits (11 ∷ []))
-unfolding pools_round
+unfolding chain_of
 tie_proves = ((lit< tt, (lit< tt, lit< tt), tt), settled) where
-  settled : (P : ℕ) → P < 1 → IsSettled (crossing_tie H) (reached (raise 0 11 ∷ [])) P × (effective_limit (crossing_tie H) (reached (raise 0 11 ∷ [])) P ≡ limits (11 ∷ []) P)
+  settled : (P : ℕ) → P < 1 → IsSettled (crossing_tie H) (limits_after (raise 0 11 ∷ [])) P × (effective_limit (crossing_tie H) (limits_after (raise 0 11 ∷ [])) P ≡ limits (11 ∷ []) P)
   settled zero h = ((λ j. omega arith), refl)
   settled (suc P) h = absurd (omega arith)
 
 tie_counts : count_in (crossing_tie H) (limits (11 ∷ [])) 0 ≡ 0
-unfolding pools_round
+unfolding chain_of
 tie_counts = refl
 
 tie_proves_l : Proves (crossing_tie L) (raise 0 10 ∷ []) (limits (10 ∷ []))
-unfolding pools_round
+unfolding chain_of
 tie_proves_l = ((lit< tt, (lit< tt, (lit< tt, lit≤ tt)), tt), settled) where
-  settled : (P : ℕ) → P < 1 → IsSettled (crossing_tie L) (reached (raise 0 10 ∷ [])) P × (effective_limit (crossing_tie L) (reached (raise 0 10 ∷ [])) P ≡ limits (10 ∷ []) P)
+  settled : (P : ℕ) → P < 1 → IsSettled (crossing_tie L) (limits_after (raise 0 10 ∷ [])) P × (effective_limit (crossing_tie L) (limits_after (raise 0 10 ∷ [])) P ≡ limits (10 ∷ []) P)
   settled zero h = ((λ j. let k = j.1 in omega arith), refl)
   settled (suc P) h = absurd (omega arith)
 
 tie_counts_l : count_in (crossing_tie L) (limits (10 ∷ [])) 0 ≡ 2
-unfolding pools_round
+unfolding chain_of
 tie_counts_l = refl
 
 -- 11 isn't stable under L
 tie_unstable_l : MeetsL (crossing_tie L) (limits (11 ∷ [])) 0 → ⊥
-unfolding pools_round
+unfolding chain_of
 tie_unstable_l (fits, inl z) = absurd (omega (arith, z))
 tie_unstable_l (fits, inr j) = absurd (omega (arith, j.1))
 
@@ -129,30 +129,30 @@ swapped = record {
 }
 
 swapped_stable : IsStable swapped (limits (6 ∷ 6 ∷ []))
-unfolding pools_round
+unfolding chain_of
 swapped_stable zero h = (refl, (lit≤ tt, inr (lit< tt)))
 swapped_stable (suc zero) h = (refl, (lit≤ tt, inr (lit< tt)))
 swapped_stable (suc (suc P)) h = absurd (omega arith)
 
 -- at zeros a raise of B to 11 isn't justified
 displaced_unsound : IsJustified displaced_twice zeros 1 11 → ⊥
-unfolding pools_round
+unfolding chain_of
 displaced_unsound j = omega (arith, j)
 
 -- the nested pools are proved by two lists
 nested_proves : Proves nested (raise 0 7 ∷ raise 1 9 ∷ []) (limits (7 ∷ 9 ∷ 7 ∷ []))
-unfolding pools_round capped_demand
+unfolding chain_of capped_demand
 nested_proves = ((lit< tt, (lit< tt, lit≤ tt), (lit< tt, (lit< tt, lit≤ tt), tt)), settled) where
-  settled : (P : ℕ) → P < 3 → IsSettled nested (reached (raise 0 7 ∷ raise 1 9 ∷ [])) P × (effective_limit nested (reached (raise 0 7 ∷ raise 1 9 ∷ [])) P ≡ limits (7 ∷ 9 ∷ 7 ∷ []) P)
+  settled : (P : ℕ) → P < 3 → IsSettled nested (limits_after (raise 0 7 ∷ raise 1 9 ∷ [])) P × (effective_limit nested (limits_after (raise 0 7 ∷ raise 1 9 ∷ [])) P ≡ limits (7 ∷ 9 ∷ 7 ∷ []) P)
   settled zero h = ((λ j. omega (arith, j)), refl)
   settled (suc zero) h = ((λ j. omega (arith, j)), refl)
   settled (suc (suc zero)) h = ((λ j. omega (arith, j)), refl)
   settled (suc (suc (suc P))) h = absurd (omega arith)
 
 nested_proves' : Proves nested (raise 1 9 ∷ raise 2 6 ∷ raise 0 7 ∷ []) (limits (7 ∷ 9 ∷ 7 ∷ []))
-unfolding pools_round capped_demand
+unfolding chain_of capped_demand
 nested_proves' = ((lit< tt, (lit< tt, lit≤ tt), (lit< tt, (lit< tt, lit≤ tt), (lit< tt, (lit< tt, lit≤ tt), tt))), settled) where
-  settled : (P : ℕ) → P < 3 → IsSettled nested (reached (raise 1 9 ∷ raise 2 6 ∷ raise 0 7 ∷ [])) P × (effective_limit nested (reached (raise 1 9 ∷ raise 2 6 ∷ raise 0 7 ∷ [])) P ≡ limits (7 ∷ 9 ∷ 7 ∷ []) P)
+  settled : (P : ℕ) → P < 3 → IsSettled nested (limits_after (raise 1 9 ∷ raise 2 6 ∷ raise 0 7 ∷ [])) P × (effective_limit nested (limits_after (raise 1 9 ∷ raise 2 6 ∷ raise 0 7 ∷ [])) P ≡ limits (7 ∷ 9 ∷ 7 ∷ []) P)
   settled zero h = ((λ j. omega (arith, j)), refl)
   settled (suc zero) h = ((λ j. omega (arith, j)), refl)
   settled (suc (suc zero)) h = ((λ j. omega (arith, j)), refl)
@@ -160,12 +160,12 @@ nested_proves' = ((lit< tt, (lit< tt, lit≤ tt), (lit< tt, (lit< tt, lit≤ tt)
 
 -- and are a valid instance
 nested_valid : IsValid nested
-unfolding pools_round climb
+unfolding chain_of climb
 nested_valid = refl
 
 -- at zeros the swapped applicants are admitted to their first choices
 swapped_zeros : IsStable swapped zeros
-unfolding pools_round
+unfolding chain_of
 swapped_zeros zero h = (refl, (lit≤ tt, inl refl))
 swapped_zeros (suc zero) h = (refl, (lit≤ tt, inl refl))
 swapped_zeros (suc (suc P)) h = absurd (omega arith)
@@ -182,9 +182,9 @@ two_programmes = record {
 }
 
 two_programmes_prove : Proves two_programmes (raise 0 13 ∷ []) (limits (13 ∷ []))
-unfolding pools_round
+unfolding chain_of
 two_programmes_prove = ((lit< tt, (lit< tt, lit< tt), tt), settled) where
-  settled : (P : ℕ) → P < 1 → IsSettled two_programmes (reached (raise 0 13 ∷ [])) P × (effective_limit two_programmes (reached (raise 0 13 ∷ [])) P ≡ limits (13 ∷ []) P)
+  settled : (P : ℕ) → P < 1 → IsSettled two_programmes (limits_after (raise 0 13 ∷ [])) P × (effective_limit two_programmes (limits_after (raise 0 13 ∷ [])) P ≡ limits (13 ∷ []) P)
   settled zero h = ((λ j. omega arith), refl)
   settled (suc P) h = absurd (omega arith)
 
@@ -197,8 +197,8 @@ top_tie = record {
 }
 
 top_tie_proves : Proves top_tie (raise 0 (MAX_SCORE + 1) ∷ []) (limits ((MAX_SCORE + 1) ∷ []))
-unfolding pools_round
+unfolding chain_of
 top_tie_proves = ((lit< tt, (lit< tt, lit< tt), tt), settled) where
-  settled : (P : ℕ) → P < 1 → IsSettled top_tie (reached (raise 0 (MAX_SCORE + 1) ∷ [])) P × (effective_limit top_tie (reached (raise 0 (MAX_SCORE + 1) ∷ [])) P ≡ limits ((MAX_SCORE + 1) ∷ []) P)
+  settled : (P : ℕ) → P < 1 → IsSettled top_tie (limits_after (raise 0 (MAX_SCORE + 1) ∷ [])) P × (effective_limit top_tie (limits_after (raise 0 (MAX_SCORE + 1) ∷ [])) P ≡ limits ((MAX_SCORE + 1) ∷ []) P)
   settled zero h = ((λ j. omega arith), refl)
   settled (suc P) h = absurd (omega arith)

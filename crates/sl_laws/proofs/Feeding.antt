@@ -5,7 +5,7 @@ use Rattle.std.proofs.lemmas.List.Folds.{list_any_at}
 use Rattle.std.specs.List.{list_any}
 use Rattle.sl_types.specs.declared.kinds.Entry.{Entry}
 use Rattle.sl_types.specs.Market.{Market, list_of}
-use Rattle.sl_laws.specs.Stable.{leads, is_choice_in, HasThrough}
+use Rattle.sl_laws.specs.Stable.{leads, is_choice_in, HasInOrder}
 use Rattle.sl_laws.specs.Laws.{FeedsSays}
 
 -- where a test passes
@@ -16,7 +16,7 @@ any_holds p (x ∷ xs) h = elim (or_cases (p x) (list_any p xs) h) [
   | inr later ↦ let t = any_holds p xs later in (suc t.0, (let a = t.1 in omega (arith, a)), t.2)
 ]
 
-through : (market : Market) (Q P : ℕ) (es : List Entry) → leads market Q P es ≡ true → HasThrough market Q P es
+through : (market : Market) (Q P : ℕ) (es : List Entry) → leads market Q P es ≡ true → HasInOrder market Q P es
 through market Q P [] h = absurd (true≢false (sym h))
 through market Q P (e ∷ es) h = elim (or_cases (is_choice_in market Q e && list_any (is_choice_in market P) (e ∷ es)) (leads market Q P es) h) [
   | inl here ↦

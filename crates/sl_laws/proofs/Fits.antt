@@ -7,9 +7,9 @@ use Rattle.sl_types.specs.declared.kinds.Entry.{Entry}
 use Rattle.sl_types.specs.declared.kinds.PoolId.{PoolId}
 use Rattle.sl_types.specs.declared.kinds.Rule.TheVariants.{Merit}
 use Rattle.sl_types.specs.declared.kinds.TheConstants.{MAX_DEPTH}
-use Rattle.sl_types.specs.Market.{Market, pool_of, quota_of, rule_of, parent_of, is_parent, pools_round, lies_in}
+use Rattle.sl_types.specs.Market.{Market, pool_of, quota_of, rule_of, parent_of, is_parent, chain_of, lies_in}
 use Rattle.sl_types.specs.WellFormed.{IsWellFormed}
-use Rattle.sl_laws.specs.Limits.{Limits, with_limit, greatest, effective_limit, is_eligible, is_admitted_in, admitted_choice, count_in, capped_demand, passes, bar}
+use Rattle.sl_laws.specs.Limits.{Limits, with_limit, greatest_of, effective_limit, is_eligible, is_admitted_in, admitted_choice, count_in, capped_demand, passes, bar}
 use Rattle.sl_laws.specs.Stable.{MeetsMerit}
 use Rattle.sl_laws.proofs.Lists.{filter_more, sum_by_filter_le, find_is}
 use Rattle.sl_laws.proofs.Effective.{among}
@@ -91,7 +91,7 @@ module _ (market : Market) (ok : IsWellFormed market) where
   deciding_from t zero P h = let a = ap length (own_round market P) in absurd (omega (arith, a, h))
   deciding_from t (suc n) P h = elim (has_parent market P (parent_of market P) refl) [
     | inl top ↦
-        let e : effective_limit market t P ≡ max (t P) 0 = ap (greatest t) top.0 in
+        let e : effective_limit market t P ≡ max (t P) 0 = ap (greatest_of t) top.0 in
         elim (cases_eq (t P) 0) [
           | inl z ↦ inl (omega (arith, e, z))
           | inr some' ↦ inr (
@@ -281,14 +281,14 @@ module _ (market : Market) (ok : IsWellFormed market) where
     -- each merit pool meets the merit condition at l
     pub meets_merit : (P : ℕ) → P < length market.pools → rule_of market P ≡ Merit → l P ≡ effective_limit market t P → MeetsMerit market l P
     meets_merit P P_in merit at =
-        let low = greatest_le (bar market l) (effective_limit market t P) (pools_round market P) (λ R up.
+        let low = greatest_le (bar market l) (effective_limit market t P) (chain_of market P) (λ R up.
         let k = bar_low R (round_in P R up P_in) (round_merit P R up P_in merit) in
         let m = limit_in t P R up in omega (arith, k, m)) in
-        let high : effective_limit market t P ≤ greatest (bar market l) (pools_round market P) = elim (deciding t P) [
+        let high : effective_limit market t P ≤ greatest_of (bar market l) (chain_of market P) = elim (deciding t P) [
           | inl z ↦ omega (arith, z)
           | inr found ↦
               let k = bar_high found.0 (round_in P found.0 found.1 P_in) (round_merit P found.0 found.1 P_in merit) found.2 in
-              let m = le_greatest (bar market l) found.0 (pools_round market P) found.1 in
+              let m = le_greatest (bar market l) found.0 (chain_of market P) found.1 in
               let e = found.3 in
               omega (arith, k, m, e)
         ] in

@@ -4,7 +4,7 @@ use Rattle.std.proofs.lemmas.Bool.{eqb-true, eq-eqb, leb-true, le-leb, and_parts
 use Rattle.std.proofs.lemmas.List.Elements.{All-nil, All-cons, All-head, All-tail, All-weaker, All-from_get_or}
 use Rattle.sl_types.specs.declared.kinds.Entry.{Entry}
 use Rattle.sl_types.specs.Market.{Market, pool_of, quota_of, lies_in}
-use Rattle.sl_laws.specs.Limits.{Limits, admitted_choice, is_admitted_in, admitted_in, count_in, merit_of, merits_in, least_with, lowest, is_full, bar, passes}
+use Rattle.sl_laws.specs.Limits.{Limits, admitted_choice, is_admitted_in, admitted_in, count_in, merit_of, merits_in, least_with, lowest_of, is_full, bar, passes}
 use Rattle.sl_laws.proofs.Lists.{filter_more}
 use Rattle.sl_laws.proofs.Parts.{is_within, admitted_within}
 
@@ -17,7 +17,7 @@ least_with_all x [] = All-nil (λ y. x ≤ y)
 least_with_all x (y ∷ ys) = All-cons (λ z. min x (least_with y ys) ≤ z) y ys (let a = least_with_le y ys in omega (arith, a))
     (All-weaker (λ z. least_with y ys ≤ z) (λ z. min x (least_with y ys) ≤ z) (λ z h. omega (arith, h)) ys (least_with_all y ys))
 
-lowest_all : (ys : List ℕ) → All (λ y. lowest ys ≤ y) ys
+lowest_all : (ys : List ℕ) → All (λ y. lowest_of ys ≤ y) ys
 lowest_all [] = All-nil (λ y. 0 ≤ y)
 lowest_all (y ∷ ys) = All-cons (λ z. least_with y ys ≤ z) y ys (least_with_le y ys) (least_with_all y ys)
 
@@ -25,7 +25,7 @@ least_with_from : (z x : ℕ) (ys : List ℕ) → z ≤ x → All (λ y. z ≤ y
 least_with_from z x [] h all = h
 least_with_from z x (y ∷ ys) h all = let a = least_with_from z y ys (All-head (λ y. z ≤ y) y ys all) (All-tail (λ y. z ≤ y) y ys all) in omega (arith, a, h)
 
-lowest_from : (z : ℕ) (ys : List ℕ) → 1 ≤ length ys → All (λ y. z ≤ y) ys → z ≤ lowest ys
+lowest_from : (z : ℕ) (ys : List ℕ) → 1 ≤ length ys → All (λ y. z ≤ y) ys → z ≤ lowest_of ys
 lowest_from z [] some all = absurd (omega arith)
 lowest_from z (y ∷ ys) some all = least_with_from z y ys (All-head (λ y. z ≤ y) y ys all) (All-tail (λ y. z ≤ y) y ys all)
 
@@ -96,7 +96,7 @@ module _ (market : Market) (t : Limits) (P : ℕ) where
       (All-from_get_or (λ cs. is_admitted_in market t P cs ≡ true → is_within market t P x cs ≡ true) market.lists [] (λ a a_in e. in_within x (admitted_choice market t (get_or market.lists a [])) (each a [] a_in e) e))
 
   -- where all have merit at least x and there is one, so has the lowest
-  pub lowest_within : (x : ℕ) → 1 ≤ count_in market t P → count_in market t P ≤ length (admitted_within market t P x) → x ≤ lowest (merits_in market t P)
+  pub lowest_within : (x : ℕ) → 1 ≤ count_in market t P → count_in market t P ≤ length (admitted_within market t P x) → x ≤ lowest_of (merits_in market t P)
   lowest_within x some h = let back = filter_back (is_within market t P x) (is_admitted_in market t P) market.lists
       (All-from_get_or (λ cs. is_within market t P x cs ≡ true → is_admitted_in market t P cs ≡ true) market.lists [] (λ a a_in. within_in x (admitted_choice market t (get_or market.lists a [])))) h in
       lowest_from x (merits_in market t P) (let l = length_map (λ choices. merit_of (admitted_choice market t choices)) (admitted_in market t P) in omega (arith, l, some))
@@ -104,17 +104,17 @@ module _ (market : Market) (t : Limits) (P : ℕ) where
       (All-from_get_or (λ cs. is_admitted_in market t P cs ≡ true → x ≤ merit_of (admitted_choice market t cs)) market.lists [] (λ a a_in e. within_merit x (admitted_choice market t (get_or market.lists a [])) (back a [] a_in e))))
 
   -- a bar above 0 is that of a full pool
-  pub bar_full : 1 ≤ bar market t P → (count_in market t P ≡ quota_of market P) × (bar market t P ≡ lowest (merits_in market t P))
+  pub bar_full : 1 ≤ bar market t P → (count_in market t P ≡ quota_of market P) × (bar market t P ≡ lowest_of (merits_in market t P))
   bar_full h = elim (cases_Bool (is_full market t P)) [
-    | inl yes' ↦ (eqb-true (count_in market t P) (quota_of market P) yes', ap (λ b. cond b (lowest (merits_in market t P)) 0) yes')
-    | inr no' ↦ let z : bar market t P ≡ 0 = ap (λ b. cond b (lowest (merits_in market t P)) 0) no' in absurd (omega (arith, z, h))
+    | inl yes' ↦ (eqb-true (count_in market t P) (quota_of market P) yes', ap (λ b. cond b (lowest_of (merits_in market t P)) 0) yes')
+    | inr no' ↦ let z : bar market t P ≡ 0 = ap (λ b. cond b (lowest_of (merits_in market t P)) 0) no' in absurd (omega (arith, z, h))
   ]
 
   -- the bar of a full pool is its lowest merit
-  pub full_bar : count_in market t P ≡ quota_of market P → bar market t P ≡ lowest (merits_in market t P)
-  full_bar e = ap (λ b. cond b (lowest (merits_in market t P)) 0) (eq-eqb (count_in market t P) (quota_of market P) e)
+  pub full_bar : count_in market t P ≡ quota_of market P → bar market t P ≡ lowest_of (merits_in market t P)
+  full_bar e = ap (λ b. cond b (lowest_of (merits_in market t P)) 0) (eq-eqb (count_in market t P) (quota_of market P) e)
 
   -- a full pool is filled by those of merit at least its bar
   pub bar_fills : (x : ℕ) → 1 ≤ bar market t P → x ≤ bar market t P → quota_of market P ≤ length (admitted_within market t P x)
   bar_fills x some low = let f = bar_full some in let c = f.0 in let b = f.1 in
-      let k = within_all x (All-weaker (λ y. lowest (merits_in market t P) ≤ y) (λ y. x ≤ y) (λ y h. omega (arith, h, b, low)) (merits_in market t P) (lowest_all (merits_in market t P))) in omega (arith, k, c)
+      let k = within_all x (All-weaker (λ y. lowest_of (merits_in market t P) ≤ y) (λ y. x ≤ y) (λ y h. omega (arith, h, b, low)) (merits_in market t P) (lowest_all (merits_in market t P))) in omega (arith, k, c)

@@ -6,7 +6,7 @@ use Rattle.sl_types.specs.declared.kinds.Entry.{Entry}
 use Rattle.sl_types.specs.declared.kinds.Rule.{Rule}
 use Rattle.sl_types.specs.declared.kinds.Rule.TheVariants.{H, L, Merit}
 use Rattle.sl_types.specs.declared.kinds.TheConstants.{MAX_DEPTH}
-use Rattle.sl_types.specs.Market.{Market, pool_of, quota_of, rule_of, parent_of, pools_inside, pools_round, lies_in}
+use Rattle.sl_types.specs.Market.{Market, pool_of, quota_of, rule_of, parent_of, children_of, chain_of, lies_in}
 use Rattle.sl_types.specs.WellFormed.{IsWellFormed}
 use Rattle.sl_laws.specs.Limits.{Limits, with_limit, effective_limit, is_eligible, admitted_choice, demand_within, capped_demand, admitted_directly, passes}
 use Rattle.sl_laws.specs.Stable.{IsJustifiedBy, IsSettled, Feeds, leads, is_choice_in}
@@ -79,7 +79,7 @@ module _ (market : Market) (ok : IsWellFormed market) where
   within_none t P x never (suc n) D within =
       let inner = sum_by_filter_same (is_child market D) (λ C. min (quota_of market C) (demand_within market t x n C)) (λ C. 0) (range_with_len 0 (length market.pools))
       (λ C e. let z = within_none t P x never n C (lies_child market ok D C P e within) in omega (arith, z)) in
-      let zeros = sum_by_zero (pools_inside market D) in
+      let zeros = sum_by_zero (children_of market D) in
       let direct : length (admitted_directly market t D x) ≡ 0 = ap length (filter_none (λ choices. passes (directly market D x) (admitted_choice market t choices)) market.lists (list_any (is_choice_in market P))
       (λ choices out. none_passes (directly market D x) (is_choice_in market P) (is_eligible market t) (directly_in P D x within) choices out) never) in
       omega (arith, inner, zeros, direct)
@@ -118,7 +118,7 @@ module _ (market : Market) (ok : IsWellFormed market) where
   settled_by t u P P_in fed up settled H is = score_settled t u P (λ m. let h : H ≡ Merit = sym is ∙ m in cc) fed up settled
   settled_by t u P P_in fed up settled L is = score_settled t u P (λ m. let h : L ≡ Merit = sym is ∙ m in cc) fed up settled
   settled_by t u P P_in fed up settled Merit is = elim (cases_Bool (list_any (list_any (is_choice_in market P)) market.lists)) [
-    | inl applied ↦ below_settled t u P fed (greatest_more t u (pools_round market P) (λ Q round. elim (cases_Bool (nat_eq Q P)) [
+    | inl applied ↦ below_settled t u P fed (greatest_more t u (chain_of market P) (λ Q round. elim (cases_Bool (nat_eq Q P)) [
       | inl same ↦ subst (λ (R : ℕ). t R ≤ u R) (sym (eqb-true Q P same)) up
       | inr other ↦ let e = fed Q (round_feeds P Q applied round other) in omega (arith, e)
     ])) settled

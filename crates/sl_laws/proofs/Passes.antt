@@ -4,9 +4,9 @@ use Rattle.std.specs.List.{range_with_len}
 use Rattle.std.proofs.lemmas.Bool.{cases_lt}
 use Rattle.sl_types.specs.declared.kinds.Rule.{Rule}
 use Rattle.sl_types.specs.declared.kinds.Rule.TheVariants.{Merit}
-use Rattle.sl_types.specs.Market.{Market, quota_of, rule_of, lies_in, pools_inside, pools_round}
+use Rattle.sl_types.specs.Market.{Market, quota_of, rule_of, lies_in, children_of, chain_of}
 use Rattle.sl_types.specs.WellFormed.{IsWellFormed}
-use Rattle.sl_laws.specs.Limits.{Limits, with_limit, greatest, admitted_directly, capped_demand, bar}
+use Rattle.sl_laws.specs.Limits.{Limits, with_limit, greatest_of, admitted_directly, capped_demand, bar}
 use Rattle.sl_laws.specs.Stable.{IsStable, Meets, MeetsMerit}
 use Rattle.sl_laws.specs.Laws.{AtMost}
 use Rattle.sl_laws.proofs.Lists.{sum_by_filter_le}
@@ -22,7 +22,7 @@ module _ (market : Market) (ok : IsWellFormed market) (l : Limits) (stable : IsS
   meets P P_in merit = subst (λ (r : Rule). Meets r market l P) merit (stable P P_in).1
 
   -- what is admitted inside takes in what is asked, each pool for its quota
-  within_takes : (C x : ℕ) → sum_by (λ D. min (quota_of market D) (length (admitted_within market l D x))) (pools_inside market C) + length (admitted_directly market l C x) ≤ length (admitted_within market l C x)
+  within_takes : (C x : ℕ) → sum_by (λ D. min (quota_of market D) (length (admitted_within market l D x))) (children_of market C) + length (admitted_directly market l C x) ≤ length (admitted_within market l C x)
   within_takes C x = let a = sum_by_filter_le (is_child market C) (λ D. min (quota_of market D) (length (admitted_within market l D x))) (λ D. length (admitted_within market l D x)) (range_with_len 0 (length market.pools)) (λ D e. omega arith) in
       let b = parts market ok l C x in omega (arith, a, b)
 
@@ -39,7 +39,7 @@ module _ (market : Market) (ok : IsWellFormed market) (l : Limits) (stable : IsS
     filled : (C D : ℕ) → Low C → is_child market C D ≡ true → x < l D → quota_of market D ≤ length (admitted_within market l D x)
     filled C D low e high = let D_in = child_in market C D e in
         let own = (meets D D_in (merit_child market ok C D e)).1 in
-        let round : greatest (bar market l) (pools_round market D) ≡ max (bar market l D) (greatest (bar market l) (pools_round market C)) = ap (greatest (bar market l)) (round_child market ok C D e) in
+        let round : greatest_of (bar market l) (chain_of market D) ≡ max (bar market l D) (greatest_of (bar market l) (chain_of market C)) = ap (greatest_of (bar market l)) (round_child market ok C D e) in
         let outer = (meets C low.1 low.2).1 in let f = low.3 in
         bar_fills market l D x (omega (arith, own, round, outer, f, high)) (omega (arith, own, round, outer, f, high))
 
@@ -59,7 +59,7 @@ module _ (market : Market) (ok : IsWellFormed market) (l : Limits) (stable : IsS
         let low = lowest_within market l P x (omega (arith, k, asked, w, q)) (omega (arith, k, asked, fits)) in
         let full = full_bar market l P (omega (arith, k, asked, w, fits)) in
         let is = m.1 in
-        let own = le_greatest (bar market l) P (pools_round market P) (lies_own market P) in omega (arith, low, full, is, own)
+        let own = le_greatest (bar market l) P (chain_of market P) (lies_own market P) in omega (arith, low, full, is, own)
 
   -- a justified raise passes no stable limit
   pub passes_no_stable : (r : Limits) → AtMost market r l → (P : ℕ) → P < length market.pools → rule_of market P ≡ Merit → (x : ℕ) → IsAsked market r P x → x ≤ l P

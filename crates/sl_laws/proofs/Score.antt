@@ -8,7 +8,7 @@ use Rattle.sl_types.specs.declared.kinds.Entry.{Entry}
 use Rattle.sl_types.specs.declared.kinds.Rule.{Rule}
 use Rattle.sl_types.specs.declared.kinds.Rule.TheVariants.{H, L, Merit}
 use Rattle.sl_types.specs.declared.kinds.TheConstants.{MAX_DEPTH}
-use Rattle.sl_types.specs.Market.{Market, pool_of, quota_of, rule_of, pools_inside, pools_round, lies_in}
+use Rattle.sl_types.specs.Market.{Market, pool_of, quota_of, rule_of, children_of, chain_of, lies_in}
 use Rattle.sl_types.specs.WellFormed.{IsWellFormed}
 use Rattle.sl_laws.specs.Limits.{Limits, with_limit, effective_limit, is_eligible, admitted_choice, demand, demand_within, capped_demand, admitted_directly, passes}
 use Rattle.sl_laws.specs.Stable.{IsStable, Meets, IsJustified, IsJustifiedBy, Feeds, leads, is_choice_in}
@@ -59,7 +59,7 @@ within_more : (market : Market) (t : Limits) (x y : ℕ) → y ≤ x → (n P : 
 unfolding demand_within
 within_more market t x y below zero P = omega arith
 within_more market t x y below (suc n) P =
-    let inner = sum_by-le-sum_by (λ C. min (quota_of market C) (demand_within market t x n C)) (λ C. min (quota_of market C) (demand_within market t y n C)) (pools_inside market P) (λ C. min_more (quota_of market C) (demand_within market t x n C) (demand_within market t y n C) (within_more market t x y below n C)) in
+    let inner = sum_by-le-sum_by (λ C. min (quota_of market C) (demand_within market t x n C)) (λ C. min (quota_of market C) (demand_within market t y n C)) (children_of market P) (λ C. min_more (quota_of market C) (demand_within market t x n C) (demand_within market t y n C) (within_more market t x y below n C)) in
     let direct = directly_more market t P x y below in
     omega (arith, inner, direct)
 
@@ -125,7 +125,7 @@ stays_by market ok r t most P x score Merit plain j = absurd (plain refl)
 agree_up_to : (market : Market) (t u : Limits) (P : ℕ) (es : List Entry) → ((Q : ℕ) → leads market Q P es ≡ true → t Q ≡ u Q) → AgreeUpTo (is_choice_in market P) (is_eligible market t) (is_eligible market u) es
 agree_up_to market t u P [] agree = tt
 agree_up_to market t u P (e ∷ es) agree = (
-  (λ ahead. ap (λ m. nat_le m e.score) (greatest_same t u (pools_round market (pool_of market e))
+  (λ ahead. ap (λ m. nat_le m e.score) (greatest_same t u (chain_of market (pool_of market e))
       (λ Q round. agree Q (or_left (is_choice_in market Q e && list_any (is_choice_in market P) (e ∷ es)) (leads market Q P es) (and_from (is_choice_in market Q e) (list_any (is_choice_in market P) (e ∷ es)) round ahead))))),
   agree_up_to market t u P es (λ Q k. agree Q (or_right (is_choice_in market Q e && list_any (is_choice_in market P) (e ∷ es)) (leads market Q P es) k)),
 )

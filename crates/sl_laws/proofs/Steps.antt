@@ -8,18 +8,18 @@ use Rattle.std.proofs.lemmas.List.{take_all}
 use Rattle.std.proofs.lemmas.List.Filters.{length-filter_more}
 use Rattle.sl_types.specs.declared.kinds.PoolId.{PoolId}
 use Rattle.sl_types.specs.declared.kinds.TheConstants.{MAX_DEPTH}
-use Rattle.sl_types.specs.Market.{quota_of, is_parent, Market, parent_of, outward, climb, pools_round, lies_in}
+use Rattle.sl_types.specs.Market.{quota_of, is_parent, Market, parent_of, outward, climb, chain_of, lies_in}
 use Rattle.sl_types.specs.declared.kinds.Entry.{Entry}
-use Rattle.sl_laws.specs.Limits.{demand_within, capped_demand, admitted_directly, admitted_choice, is_eligible, Limits, greatest, effective_limit}
+use Rattle.sl_laws.specs.Limits.{demand_within, capped_demand, admitted_directly, admitted_choice, is_eligible, Limits, greatest_of, effective_limit}
 use Rattle.sl_laws.proofs.Lists.{find_is}
 
 -- the greatest number from here outwards, n pools at most
 unfoldable pub greatest_from : Market → Limits → ℕ → Option PoolId → ℕ
-greatest_from market t n at = greatest t (outward (climb market n) at)
+greatest_from market t n at = greatest_of t (outward (climb market n) at)
 
 -- all levels
 pub from_all : (market : Market) (t : Limits) (P : PoolId) → greatest_from market t MAX_DEPTH (Some P) ≡ effective_limit market t P.0
-unfolding greatest_from pools_round
+unfolding greatest_from chain_of
 from_all market t P = refl
 
 -- past the outermost pool
@@ -49,7 +49,7 @@ is_met_from market P n at = list_any (λ Q. nat_eq Q P) (outward (climb market n
 
 -- all levels
 pub met_all : (market : Market) (P : ℕ) (C : PoolId) → is_met_from market P MAX_DEPTH (Some C) ≡ lies_in market C.0 P
-unfolding is_met_from pools_round
+unfolding is_met_from chain_of
 met_all market P C = refl
 
 -- past the outermost pool

@@ -7,7 +7,7 @@ use Rattle.sl_types.specs.declared.kinds.Entry.{Entry}
 use Rattle.sl_types.specs.declared.kinds.Rule.{Rule}
 use Rattle.sl_types.specs.declared.kinds.Rule.TheVariants.{H, L, Merit}
 use Rattle.sl_types.specs.declared.kinds.TheConstants.{MAX_DEPTH, MAX_SCORE}
-use Rattle.sl_types.specs.Market.{Market, pool_of, quota_of, rule_of, pools_inside, lies_in}
+use Rattle.sl_types.specs.Market.{Market, pool_of, quota_of, rule_of, children_of, lies_in}
 use Rattle.sl_types.specs.WellFormed.{IsWellFormed}
 use Rattle.sl_laws.specs.Limits.{Limits, with_limit, effective_limit, is_eligible, is_admitted_in, admitted_choice, demand, demand_within, capped_demand, admitted_directly, passes}
 use Rattle.sl_laws.specs.Stable.{IsJustifiedBy, IsSettled}
@@ -41,7 +41,7 @@ module _ (market : Market) (ok : IsWellFormed market) where
   within_none t x high zero P = refl
   within_none t x high (suc n) P =
       let inner = sum_by_filter_same (is_child market P) (λ C. min (quota_of market C) (demand_within market t x n C)) (λ C. 0) (range_with_len 0 (length market.pools)) (λ C e. let z = within_none t x high n C in omega (arith, z)) in
-      let zeros = sum_by_zero (pools_inside market P) in
+      let zeros = sum_by_zero (children_of market P) in
       let direct : length (admitted_directly market t P x) ≡ 0 = none_left (λ choices. passes (λ e. nat_eq (pool_of market e) P && nat_le x e.score) (admitted_choice market t choices)) market.lists
       (All-from_get_or (λ choices. passes (λ e. nat_eq (pool_of market e) P && nat_le x e.score) (admitted_choice market t choices) ≡ true → ⊥) market.lists [] (λ a a_in h.
       let w = passes_some (λ (e : Entry). nat_eq (pool_of market e) P && nat_le x e.score) (admitted_choice market t (get_or market.lists a [])) h in

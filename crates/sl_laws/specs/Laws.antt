@@ -6,8 +6,8 @@ use Rattle.sl_types.specs.declared.kinds.Rule.TheVariants.{Merit}
 use Rattle.sl_types.specs.declared.kinds.TheConstants.{MAX_SCORE}
 use Rattle.sl_types.specs.Market.{Market, rule_of, lies_in, list_of}
 use Rattle.sl_laws.specs.Limits.{Limits, effective_limit, is_eligible, demand}
-use Rattle.sl_laws.specs.Stable.{IsStable, IsLeastStable, IsJustified, IsSettled, Feeds, HasThrough}
-use Rattle.sl_laws.specs.Raises.{IsSound, Replays, Proves, reached, without_void}
+use Rattle.sl_laws.specs.Stable.{IsStable, IsLeastStable, IsJustified, IsSettled, Feeds, HasInOrder}
+use Rattle.sl_laws.specs.Raises.{IsSound, Replays, Proves, limits_after, without_void}
 use Rattle.sl_laws.specs.Best.{best_raise}
 
 -- a pool of rule H or L
@@ -38,18 +38,18 @@ PassesNoStableLimit market = (l r : Limits) → IsStable market l → ((Q : ℕ)
 
 -- a justified raise stays justified until it is overtaken
 abbrev pub StaysJustified : Market → Type 0
-StaysJustified market = (c : List Raise) → IsSound market c → (r : Limits) → AtMost market r (reached c)
-    → (P x : ℕ) → IsJustified market r P x → (x ≤ effective_limit market (reached c) P) ⊎ IsJustified market (reached c) P x
+StaysJustified market = (c : List Raise) → IsSound market c → (r : Limits) → AtMost market r (limits_after c)
+    → (P x : ℕ) → IsJustified market r P x → (x ≤ effective_limit market (limits_after c) P) ⊎ IsJustified market (limits_after c) P x
 
 -- void raises can be dropped
 abbrev pub DropsVoid : Market → Type 0
 DropsVoid market = (c : List Raise) → IsSound market c
-    → Replays market (without_void market c) × ((Q : ℕ) → Q < length market.pools → effective_limit market (reached (without_void market c)) Q ≡ effective_limit market (reached c) Q)
+    → Replays market (without_void market c) × ((Q : ℕ) → Q < length market.pools → effective_limit market (limits_after (without_void market c)) Q ≡ effective_limit market (limits_after c) Q)
 
 -- the number that decides a pool's limit is itself justified
 abbrev pub DecidingIsJustified : Market → Type 0
 DecidingIsJustified market = (c : List Raise) → IsSound market c → (P : ℕ) → P < length market.pools
-    → 1 ≤ reached c P → ((Q : ℕ) → lies_in market P Q ≡ true → Q ≢ P → reached c Q < reached c P) → IsJustified market (reached c) P (reached c P)
+    → 1 ≤ limits_after c P → ((Q : ℕ) → lies_in market P Q ≡ true → Q ≢ P → limits_after c Q < limits_after c P) → IsJustified market (limits_after c) P (limits_after c P)
 
 -- whether a raise is justified is local to the feeding pools
 abbrev pub IsLocal : Market → Type 0
@@ -61,7 +61,7 @@ StaysSettled market = (t u : Limits) (P : ℕ) → P < length market.pools → (
 
 -- no sound list passes a stable limit
 abbrev pub SoundPassesNone : Market → Type 0
-SoundPassesNone market = (c : List Raise) → IsSound market c → (l : Limits) → IsStable market l → (P : ℕ) → reached c P ≤ l P
+SoundPassesNone market = (c : List Raise) → IsSound market c → (l : Limits) → IsStable market l → (P : ℕ) → limits_after c P ≤ l P
 
 -- a list that proves limits proves them the least
 abbrev pub ProvesTheLeast : Market → Type 0
@@ -74,12 +74,12 @@ BestDecides market = (t : Limits) (P x : ℕ) → P < length market.pools → 1 
 -- whether a pool is settled at what sound lists reach depends on effective limits alone
 abbrev pub SettledAlike : Market → Type 0
 SettledAlike market = (c d : List Raise) → IsSound market c → IsSound market d
-    → ((Q : ℕ) → Q < length market.pools → effective_limit market (reached c) Q ≡ effective_limit market (reached d) Q)
-    → (P : ℕ) → P < length market.pools → IsSettled market (reached c) P → IsSettled market (reached d) P
+    → ((Q : ℕ) → Q < length market.pools → effective_limit market (limits_after c) Q ≡ effective_limit market (limits_after d) Q)
+    → (P : ℕ) → P < length market.pools → IsSettled market (limits_after c) P → IsSettled market (limits_after d) P
 
 -- Q feeds P where Q isn't P, and some applicant has a choice in Q, and that or a later one in P
 abbrev pub FeedsSays : Market → Type 0
-FeedsSays market = (Q P : ℕ) → Feeds market Q P ↔ ((Q ≢ P) × ((a : ℕ) × (a < length market.lists) × HasThrough market Q P (list_of market a)))
+FeedsSays market = (Q P : ℕ) → Feeds market Q P ↔ ((Q ≢ P) × ((a : ℕ) × (a < length market.lists) × HasInOrder market Q P (list_of market a)))
 
 -- no stable limits admit any applicant earlier on their list than the least do
 abbrev pub NoneEarlier : Market → Type 0

@@ -2,7 +2,7 @@
 use Rattle.std.specs.Prelude.{ℕ, zero, suc, ◌+◌, Bool, false, cond, ◌&&◌, List, [], ◌∷◌, length, map, min, max, nat_eq, nat_le, find, filter, sum_by, Option, Some, None}
 use Rattle.sl_types.specs.declared.kinds.Entry.{Entry}
 use Rattle.sl_types.specs.declared.kinds.TheConstants.{MAX_DEPTH}
-use Rattle.sl_types.specs.Market.{Market, pool_of, pools_round, lies_in, pools_inside, quota_of}
+use Rattle.sl_types.specs.Market.{Market, pool_of, chain_of, lies_in, children_of, quota_of}
 
 -- a number for each pool
 abbrev pub Limits : Type 0
@@ -13,13 +13,13 @@ abbrev pub with_limit : Limits → ℕ → ℕ → Limits
 with_limit t P y Q = cond (nat_eq Q P) y (t Q)
 
 -- the greatest of f over a list, 0 over none
-abbrev pub greatest : (ℕ → ℕ) → List ℕ → ℕ
-greatest f [] = 0
-greatest f (Q ∷ Qs) = max (f Q) (greatest f Qs)
+abbrev pub greatest_of : (ℕ → ℕ) → List ℕ → ℕ
+greatest_of f [] = 0
+greatest_of f (Q ∷ Qs) = max (f Q) (greatest_of f Qs)
 
 -- the greatest number of t over P and the pools round P
 abbrev pub effective_limit : Market → Limits → ℕ → ℕ
-effective_limit market t P = greatest t (pools_round market P)
+effective_limit market t P = greatest_of t (chain_of market P)
 
 -- a choice whose score is at least the effective limit of its pool
 abbrev pub is_eligible : Market → Limits → Entry → Bool
@@ -65,9 +65,9 @@ least_with x [] = x
 least_with x (y ∷ ys) = min x (least_with y ys)
 
 -- the least of a list, 0 of none
-abbrev pub lowest : List ℕ → ℕ
-lowest [] = 0
-lowest (x ∷ xs) = least_with x xs
+abbrev pub lowest_of : List ℕ → ℕ
+lowest_of [] = 0
+lowest_of (x ∷ xs) = least_with x xs
 
 -- whether a pool admits exactly its quota
 abbrev pub is_full : Market → Limits → ℕ → Bool
@@ -75,7 +75,7 @@ is_full market t P = nat_eq (count_in market t P) (quota_of market P)
 
 -- the lowest merit admitted in a full pool, 0 for any other
 abbrev pub bar : Market → Limits → ℕ → ℕ
-bar market t P = cond (is_full market t P) (lowest (merits_in market t P)) 0
+bar market t P = cond (is_full market t P) (lowest_of (merits_in market t P)) 0
 
 -- whether an applicant is admitted to a programme directly in P, with a merit of at least x
 abbrev pub is_admitted_directly : Market → Limits → ℕ → ℕ → List Entry → Bool
@@ -88,7 +88,7 @@ admitted_directly market t P x = filter (is_admitted_directly market t P x) mark
 -- the capped demand, counted over n levels of pools
 unfoldable pub demand_within : Market → Limits → ℕ → ℕ → ℕ → ℕ
 demand_within market t x zero P = 0
-demand_within market t x (suc n) P = sum_by (λ C. min (quota_of market C) (demand_within market t x n C)) (pools_inside market P) + length (admitted_directly market t P x)
+demand_within market t x (suc n) P = sum_by (λ C. min (quota_of market C) (demand_within market t x n C)) (children_of market P) + length (admitted_directly market t P x)
 
 -- The demand for a merit pool at the limit x, of which each pool directly inside counts for its quota at most.
 unfoldable pub capped_demand : Market → Limits → ℕ → ℕ → ℕ

@@ -10,44 +10,44 @@ abbrev pub zeros : Limits
 zeros P = 0
 
 -- t after a raise: the pool's number is the greater of itself and the raise's limit
-abbrev pub raised : Limits → Raise → Limits
-raised t r = with_limit t r.pool.0 (max (t r.pool.0) r.limit)
+abbrev pub after_raise : Limits → Raise → Limits
+after_raise t r = with_limit t r.pool.0 (max (t r.pool.0) r.limit)
 
 -- t after a list of raises
-abbrev pub raised_by : Limits → List Raise → Limits
-raised_by t [] = t
-raised_by t (r ∷ rs) = raised_by (raised t r) rs
+abbrev pub after_raises : Limits → List Raise → Limits
+after_raises t [] = t
+after_raises t (r ∷ rs) = after_raises (after_raise t r) rs
 
 -- a raise that changes no effective limit
 abbrev pub IsVoid : Market → Limits → Raise → Type 0
 IsVoid market t r = r.limit ≤ effective_limit market t r.pool.0
 
 -- a list from t on, without its void raises
-abbrev pub unvoid : Market → Limits → List Raise → List Raise
-unvoid market t [] = []
-unvoid market t (r ∷ rs) = cond (nat_le r.limit (effective_limit market t r.pool.0)) (unvoid market (raised t r) rs) (r ∷ unvoid market (raised t r) rs)
+abbrev pub without_void_from : Market → Limits → List Raise → List Raise
+without_void_from market t [] = []
+without_void_from market t (r ∷ rs) = cond (nat_le r.limit (effective_limit market t r.pool.0)) (without_void_from market (after_raise t r) rs) (r ∷ without_void_from market (after_raise t r) rs)
 
 -- each raise of the list, from t on, is of a pool and is F where it stands
-abbrev pub Each : Market → (Limits → Raise → Type 0) → Limits → List Raise → Type 0
-Each market F t [] = Unit {0}
-Each market F t (r ∷ rs) = (r.pool.0 < length market.pools) × F t r × Each market F (raised t r) rs
+abbrev pub EachRaise : Market → (Limits → Raise → Type 0) → Limits → List Raise → Type 0
+EachRaise market F t [] = Unit {0}
+EachRaise market F t (r ∷ rs) = (r.pool.0 < length market.pools) × F t r × EachRaise market F (after_raise t r) rs
 
 -- each raise is void or justified where it stands
 abbrev pub IsSound : Market → List Raise → Type 0
-IsSound market c = Each market (λ t r. IsVoid market t r ⊎ IsJustified market t r.pool.0 r.limit) zeros c
+IsSound market c = EachRaise market (λ t r. IsVoid market t r ⊎ IsJustified market t r.pool.0 r.limit) zeros c
 
 -- the limits that a list reaches
-abbrev pub reached : List Raise → Limits
-reached c = raised_by zeros c
+abbrev pub limits_after : List Raise → Limits
+limits_after c = after_raises zeros c
 
 -- a list without its void raises
 abbrev pub without_void : Market → List Raise → List Raise
-without_void market c = unvoid market zeros c
+without_void market c = without_void_from market zeros c
 
 -- sound, with no void raise
 abbrev pub Replays : Market → List Raise → Type 0
-Replays market c = Each market (λ t r. (effective_limit market t r.pool.0 < r.limit) × IsJustified market t r.pool.0 r.limit) zeros c
+Replays market c = EachRaise market (λ t r. (effective_limit market t r.pool.0 < r.limit) × IsJustified market t r.pool.0 r.limit) zeros c
 
 -- it replays to limits at which each pool is settled, and l is their effective limits
 abbrev pub Proves : Market → List Raise → Limits → Type 0
-Proves market c l = Replays market c × ((P : ℕ) → P < length market.pools → IsSettled market (reached c) P × (effective_limit market (reached c) P ≡ l P))
+Proves market c l = Replays market c × ((P : ℕ) → P < length market.pools → IsSettled market (limits_after c) P × (effective_limit market (limits_after c) P ≡ l P))

@@ -6,15 +6,15 @@ use Rattle.std.specs.List.{list_any}
 use Rattle.sl_types.specs.declared.kinds.Entry.{Entry}
 use Rattle.sl_types.specs.declared.kinds.Rule.{Rule}
 use Rattle.sl_types.specs.declared.kinds.Rule.TheVariants.{H, L, Merit}
-use Rattle.sl_types.specs.Market.{Market, pool_of, pools_round, lies_in, quota_of, rule_of}
-use Rattle.sl_laws.specs.Limits.{Limits, with_limit, greatest, effective_limit, count_in, demand, is_full, bar, capped_demand}
+use Rattle.sl_types.specs.Market.{Market, pool_of, chain_of, lies_in, quota_of, rule_of}
+use Rattle.sl_laws.specs.Limits.{Limits, with_limit, greatest_of, effective_limit, count_in, demand, is_full, bar, capped_demand}
 
--- the H condition: at the limit no more than the quota are admitted, and at one less there would be more
+-- the H condition: no more than the quota are admitted; and the limit is 0, or at one less more than the quota would be
 abbrev pub MeetsH : Market → Limits → ℕ → Type 0
 MeetsH market l P = (demand market l P (l P) ≤ quota_of market P) × ((l P ≡ 0) ⊎ (quota_of market P < demand market l P (l P - 1)))
 
--- the L condition: no more than the quota are admitted, or one higher it would not be reached;
--- and at one less there would be more than the quota, while at the limit it is reached
+-- the L condition: no more than the quota are admitted, or at one more the quota would not be reached;
+-- and the limit is 0, or at one less there would be more than the quota while at the limit it is reached
 abbrev pub MeetsL : Market → Limits → ℕ → Type 0
 MeetsL market l P =
     ((demand market l P (l P) ≤ quota_of market P) ⊎ (demand market l P (l P + 1) < quota_of market P))
@@ -26,7 +26,7 @@ IsFull market l P = is_full market l P ≡ true
 
 -- the merit condition: no more than the quota are admitted, and the limit is the greatest bar of P and the pools round it
 abbrev pub MeetsMerit : Market → Limits → ℕ → Type 0
-MeetsMerit market l P = (count_in market l P ≤ quota_of market P) × (l P ≡ greatest (bar market l) (pools_round market P))
+MeetsMerit market l P = (count_in market l P ≤ quota_of market P) × (l P ≡ greatest_of (bar market l) (chain_of market P))
 
 -- the condition of a rule
 abbrev pub Meets : Rule → Market → Limits → ℕ → Type 0
@@ -42,7 +42,9 @@ IsStable market l = (P : ℕ) → P < length market.pools → (effective_limit m
 abbrev pub IsLeastStable : Market → Limits → Type 0
 IsLeastStable market l = IsStable market l × ((m : Limits) → IsStable market m → (P : ℕ) → P < length market.pools → l P ≤ m P)
 
--- By its rule, P is asked for by too many at limits below x. Said of x from 1 on
+-- whether the raise of P to x, with x at least 1, is justified by its rule
+-- H: at one less, more than the quota would come. L: the same, and at x the quota would be reached
+-- Merit: at x the capped demand reaches the quota, P's own number counting as 0
 abbrev pub IsJustifiedBy : Rule → Market → Limits → ℕ → ℕ → Type 0
 IsJustifiedBy H market t P x = quota_of market P < demand market t P (x - 1)
 IsJustifiedBy L market t P x = (quota_of market P < demand market t P (x - 1)) × (quota_of market P ≤ demand market t P x)
@@ -52,7 +54,7 @@ IsJustifiedBy Merit market t P x = quota_of market P ≤ capped_demand market (w
 abbrev pub IsJustified : Market → Limits → ℕ → ℕ → Type 0
 IsJustified market t P x = IsJustifiedBy (rule_of market P) market t P x
 
--- no raise above the effective limit is justified
+-- the raise to one above the effective limit isn't justified
 abbrev pub IsSettled : Market → Limits → ℕ → Type 0
 IsSettled market t P = IsJustified market t P (effective_limit market t P + 1) → ⊥
 
@@ -74,5 +76,5 @@ abbrev pub Feeds : Market → ℕ → ℕ → Type 0
 Feeds market Q P = feeds market Q P ≡ true
 
 -- an applicant has choices i and j, i at most j, with choice i in Q and choice j in P
-abbrev pub HasThrough : Market → ℕ → ℕ → List Entry → Type 0
-HasThrough market Q P choices = (i : ℕ) × (j : ℕ) × (i ≤ j) × (j < length choices) × HoldsAt (λ e. is_choice_in market Q e ≡ true) choices i × HoldsAt (λ e. is_choice_in market P e ≡ true) choices j
+abbrev pub HasInOrder : Market → ℕ → ℕ → List Entry → Type 0
+HasInOrder market Q P choices = (i : ℕ) × (j : ℕ) × (i ≤ j) × (j < length choices) × HoldsAt (λ e. is_choice_in market Q e ≡ true) choices i × HoldsAt (λ e. is_choice_in market P e ≡ true) choices j

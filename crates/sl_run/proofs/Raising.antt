@@ -1,6 +1,6 @@
 -- Raises one by one: the greatest of a pool, and what a list of raises reaches with one more.
-use Rattle.std.proofs.Common.{◌≡◌, ◌<◌, ◌≤◌, ◌+◌, ◌-◌, ◌∙◌, ℕ, Bool, true, false, List, [], ◌∷◌, ◌++◌, length, get_or, set, max, nat_eq, refl, sym, ap, arith, subst, zero, suc, inl, inr, sum_by, slice_index, length-set, replicate}
-use Rattle.std.proofs.lemmas.Bool.{cases_Bool, cases_lt}
+use Rattle.std.proofs.Common.{◌≡◌, ◌<◌, ◌≤◌, ◌+◌, ◌-◌, ◌∙◌, ℕ, List, [], ◌∷◌, ◌++◌, length, set, max, refl, sym, ap, arith, subst, zero, suc, inl, inr, slice_index, length-set, replicate}
+use Rattle.std.proofs.lemmas.Bool.{cases_lt}
 use Rattle.std.proofs.lemmas.List.{length-replicate}
 use Rattle.std.proofs.lemmas.List.Sums.{sum_by-set}
 use Rattle.sl_types.specs.declared.kinds.TheConstants.{MAX_SCORE}
@@ -9,7 +9,7 @@ use Rattle.sl_types.specs.Market.{Market}
 use Rattle.sl_types.specs.WellFormed.{IsWellFormed}
 use Rattle.sl_laws.specs.Limits.{Limits, with_limit, effective_limit}
 use Rattle.sl_laws.specs.Stable.{IsJustified, IsSettled}
-use Rattle.sl_laws.specs.Raises.{raised, raised_by, reached, zeros, Each, Replays, Proves}
+use Rattle.sl_laws.specs.Raises.{after_raise, after_raises, limits_after, zeros, EachRaise, Proves}
 use Rattle.sl_laws.proofs.Nest.{le_limit, lies_own}
 use Rattle.sl_laws.proofs.Score.{justified_below}
 use Rattle.sl_laws.proofs.Slices.{set_replaces, same_limits}
@@ -28,13 +28,13 @@ below_failed market ok t P x failed y j = elim (cases_lt y x) [
 ]
 
 -- one raise more
-reached_push : (t : Limits) (c : List Raise) (r : Raise) → raised_by t (c ++ r ∷ []) ≡ raised (raised_by t c) r
+reached_push : (t : Limits) (c : List Raise) (r : Raise) → after_raises t (c ++ r ∷ []) ≡ after_raise (after_raises t c) r
 reached_push t [] r = refl
-reached_push t (s ∷ c) r = reached_push (raised t s) c r
+reached_push t (s ∷ c) r = reached_push (after_raise t s) c r
 
-each_push : (market : Market) (F : Limits → Raise → Type 0) (t : Limits) (c : List Raise) (r : Raise) → Each market F t c → r.pool.0 < length market.pools → F (raised_by t c) r → Each market F t (c ++ r ∷ [])
+each_push : (market : Market) (F : Limits → Raise → Type 0) (t : Limits) (c : List Raise) (r : Raise) → EachRaise market F t c → r.pool.0 < length market.pools → F (after_raises t c) r → EachRaise market F t (c ++ r ∷ [])
 each_push market F t [] r h within f = (within, f, tt)
-each_push market F t (s ∷ c) r h within f = (h.0, h.1, each_push market F (raised t s) c r h.2 within f)
+each_push market F t (s ∷ c) r h within f = (h.0, h.1, each_push market F (after_raise t s) c r h.2 within f)
 
 -- the greatest raise of a pool goes on from where the raises were
 pub one_raise_more : (market : Market) (limits new_limits : List ℕ) (raises new_raises : List Raise) (r : Raise) → IsUnderWay market limits raises → r.pool.0 < length market.pools
@@ -42,17 +42,17 @@ pub one_raise_more : (market : Market) (limits new_limits : List ℕ) (raises ne
 one_raise_more market limits new_limits raises new_raises r h within best le re =
     let P = r.pool.0 in
     let x = r.limit in
-    let same : slice_index limits ≡ reached raises = same_limits (slice_index limits) (reached raises) h.reach in
-    let fair : (effective_limit market (reached raises) P < x) × IsJustified market (reached raises) P x =
+    let same : slice_index limits ≡ limits_after raises = same_limits (slice_index limits) (limits_after raises) h.reach in
+    let fair : (effective_limit market (limits_after raises) P < x) × IsJustified market (limits_after raises) P x =
     subst (λ (t : Limits). (effective_limit market t P < x) × IsJustified market t P x) same (best.above, best.justified) in
-    let own : reached raises P ≤ effective_limit market (reached raises) P = le_limit market (reached raises) P P (lies_own market P) in
-    let top : x ≡ max (reached raises P) x = omega (arith, own, fair) in
+    let own : limits_after raises P ≤ effective_limit market (limits_after raises) P = le_limit market (limits_after raises) P P (lies_own market P) in
+    let top : x ≡ max (limits_after raises P) x = omega (arith, own, fair) in
     let sizes = h.each in
     let inside : P < length limits = omega (arith, within, sizes) in
     rw (le, re) (record {
       each = length-set limits P x ∙ h.each;
       replays = each_push market _ zeros raises r h.replays within fair;
-      reach = λ Q. set_replaces limits P x inside Q ∙ ap (λ (t : Limits). with_limit t P x Q) same ∙ ap (λ (m : ℕ). with_limit (reached raises) P m Q) top ∙ sym (ap (λ (t : Limits). t Q) (reached_push zeros raises r));
+      reach = λ Q. set_replaces limits P x inside Q ∙ ap (λ (t : Limits). with_limit t P x Q) same ∙ ap (λ (m : ℕ). with_limit (limits_after raises) P m Q) top ∙ sym (ap (λ (t : Limits). t Q) (reached_push zeros raises r));
     })
 
 pub room_falls : (market : Market) → IsWellFormed market → (limits new_limits : List ℕ) (P x : ℕ) → P < length market.pools → length limits ≡ length market.pools → IsGreatestRaise market (slice_index limits) P x → new_limits ≡ set limits P x → room new_limits < room limits
@@ -67,7 +67,7 @@ room_falls market ok limits new_limits P x within sizes best le =
 pub ended : (market : Market) (limits published : List ℕ) (raises : List Raise) → IsUnderWay market limits raises → AreSettled market (slice_index limits)
     → ((P : ℕ) → P < length market.pools → slice_index published P ≡ effective_limit market (slice_index limits) P) → Proves market raises (slice_index published)
 ended market limits published raises h settled is =
-    let same : slice_index limits ≡ reached raises = same_limits (slice_index limits) (reached raises) h.reach in
+    let same : slice_index limits ≡ limits_after raises = same_limits (slice_index limits) (limits_after raises) h.reach in
     (h.replays, λ P within. (subst (λ (t : Limits). IsSettled market t P) same (settled P within), sym (is P within ∙ ap (λ (t : Limits). effective_limit market t P) same)))
 
 -- before the first raise

@@ -5,7 +5,7 @@ use Rattle.sl_types.specs.declared.kinds.TheConstants.{MAX_SCORE}
 use Rattle.sl_types.specs.Market.{Market}
 use Rattle.sl_laws.specs.Limits.{Limits, effective_limit}
 use Rattle.sl_laws.specs.Stable.{IsJustified, IsSettled}
-use Rattle.sl_laws.specs.Raises.{Replays, reached}
+use Rattle.sl_laws.specs.Raises.{Replays, limits_after}
 
 -- x is the greatest justified raise of P, and above its effective limit
 pub record IsGreatestRaise (market : Market) (t : Limits) (P x : ℕ) : Type 0 where
@@ -17,7 +17,7 @@ pub record IsGreatestRaise (market : Market) (t : Limits) (P x : ℕ) : Type 0 w
 pub record IsUnderWay (market : Market) (limits : List ℕ) (raises : List Raise) : Type 0 where
   pub each : length limits ≡ length market.pools
   pub replays : Replays market raises
-  pub reach : (P : ℕ) → slice_index limits P ≡ reached raises P
+  pub reach : (P : ℕ) → slice_index limits P ≡ limits_after raises P
 
 -- no pool can be raised
 abbrev pub AreSettled : Market → Limits → Type 0

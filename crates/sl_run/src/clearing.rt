@@ -15,8 +15,8 @@ pub struct Clearing {
     pub raises: Vec<Raise>,
 }
 
-#[tactic(auto, using(crate::proofs::Raising::below_all, crate::proofs::Raising::below_failed, sl_laws::proofs::Top::settled_high))]
 // The greatest justified raise of a pool, where it is above the pool's effective limit.
+#[tactic(auto, using(crate::proofs::Raising::below_all, crate::proofs::Raising::below_failed, sl_laws::proofs::Top::settled_high))]
 fn greatest_raise(instance: &Instance, limits: &[u32], pool: PoolId) -> Option<u32>
     requires sizes { length limits.now ≡ length instance.now.pools }
     requires within { pool.0 < length instance.now.pools }
@@ -94,9 +94,9 @@ fn publish(alloc: Global, instance: &Instance, limits: &[u32]) -> Result<Vec<u32
     Ok(published)
 }
 
-#[tactic(auto, using(crate::proofs::Raising::at_zeros, crate::proofs::Raising::ended))]
 /// The least stable limits, and raises that prove them: round after round over the pools in rising order,
 /// until a round raises none.
+#[tactic(auto, using(crate::proofs::Raising::at_zeros, crate::proofs::Raising::ended))]
 pub fn clear(alloc: Global, instance: &Instance) -> Result<Clearing, OutOfMemory>
     ensures each { IfOk result (λ c. length c.limits.items ≡ length instance.now.pools) }
     ensures proved { IfOk result (λ c. Proves instance.now c.raises.items (slice_index c.limits.items)) }

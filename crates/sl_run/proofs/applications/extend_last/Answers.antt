@@ -1,4 +1,4 @@
-use Rattle.std.proofs.Common.{◌≡◌, ◌∙◌, ◌-◌, ◌∷◌, ◌++◌, [], ℕ, List, length, ap, map, set, get_or, subst, sym, arith, Vec}
+use Rattle.std.proofs.Common.{◌≡◌, ◌∙◌, ◌-◌, ◌∷◌, ◌++◌, [], ℕ, length, ap, map, set, get_or, subst, sym, arith, Vec}
 use Rattle.std.specs.declared.alloc.Global.{Global}
 use Rattle.sl_types.specs.declared.kinds.Entry.{Entry}
 use Rattle.sl_run.specs.Tables.{extended}

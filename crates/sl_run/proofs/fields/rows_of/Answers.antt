@@ -1,5 +1,4 @@
-use Rattle.std.proofs.Common.{◌≡◌, ◌∙◌, ℕ, List, [], sym, length, get_or, ◌-◌, true, eqb-true}
-use Rattle.std.proofs.lemmas.Slice.Eq.{bytes_eq-Decides}
+use Rattle.std.proofs.Common.{◌∙◌, sym}
 use Rattle.sl_run.proofs.Splitting.{between, same_bytes, no_bytes}
 use Rattle.sl_run.proofs.fields.rows_of.Goals as goal
 

@@ -1,4 +1,4 @@
-use Rattle.std.proofs.Common.{refl, arith, ◌≤◌, length, []}
+use Rattle.std.proofs.Common.{refl, arith, []}
 use Rattle.std.proofs.lemmas.List.{length_push}
 use Rattle.sl_run.specs.Tables.{programme_row}
 use Rattle.sl_run.proofs.Rows.{nothing_so_far, rows_more}
