@@ -4,3 +4,4 @@ pub mod Turns
 pub mod Raising
 pub mod Commands
 pub mod Writing
+pub mod Unique

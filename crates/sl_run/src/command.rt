@@ -1,7 +1,9 @@
-ghost use Rattle.std.specs.Prelude.{◌≡◌, ◌≢◌, ◌⊎◌, ◌↔◌, true, ℕ, List, length, map, string_bytes, IfOk, IfErr, OnOk};
+ghost use Rattle.std.specs.Prelude.{◌≡◌, ◌⊎◌, ◌↔◌, true, ℕ, List, length, map, string_bytes, IfOk, IfErr, OnOk, IsErrOf};
+ghost use Rattle.std.specs.Io.KnownBytes.{Appends};
 ghost use Rattle.sl_io.specs.Count.{Rose};
+ghost use Rattle.sl_io.specs.Sink.{AppendsPart};
 ghost use Rattle.sl_run.specs.Words.{IsClear};
-ghost use Rattle.sl_run.specs.Run.{Clears, Delivers, EndsBy, IsText, Leaves};
+ghost use Rattle.sl_run.specs.Run.{Clears, Delivers, EndsBy, IsCause, IsCauseOf, IsText, Leaves};
 
 use crate::clearing::clear;
 use crate::document::result_text;
@@ -33,9 +35,10 @@ fn clear_to<S: Shelf, O: Sink>(
     shelf: &mut S,
     out: &mut O,
 ) -> Result<(), Failure>
-    ensures delivered { OnOk result (S.tells shelf.old ≡ true → Delivers (S.contents shelf.old) files.entry.pools.now files.entry.programmes.now files.entry.applications.now (O.taken out.old) (O.taken out.new)) }
+    ensures delivered { OnOk result (S.tells shelf.old ≡ true → Delivers (S.contents shelf.old) files.entry.pools.now files.entry.programmes.now files.entry.applications.now (Appends (O.taken out.old) (O.taken out.new))) }
+    ensures broken_off { IsErrOf result Failure.Unwritable → S.tells shelf.old ≡ true → Delivers (S.contents shelf.old) files.entry.pools.now files.entry.programmes.now files.entry.applications.now (AppendsPart (O.taken out.old) (O.taken out.new)) }
+    ensures cause { IfErr result (IsCause (S.tells shelf.old) (S.contents shelf.old) (S.faults shelf.old) (S.faults shelf.new) files.entry.pools.now files.entry.programmes.now files.entry.applications.now) }
     ensures left { IfErr result (λ failure. Leaves failure (O.taken out.old) (O.taken out.new) (O.faults out.old) (O.faults out.new)) }
-    ensures late { IfErr result (λ failure. failure ≢ Failure.Words) }
 {
     let named = read_files(alloc, files, shelf)?;
     let text = cleared_text(alloc, &named)?;
@@ -56,11 +59,14 @@ pub fn run<S: Shelf, O: Sink, E: Sink>(
     out: &mut O,
     err: &mut E,
 ) -> u8
-    ensures cleared { result ≡ 0 → S.tells shelf.old ≡ true → Clears (S.contents shelf.old) (map (λ w. string_bytes w) words.now) (O.taken out.old) (O.taken out.new) }
+    ensures cleared { result ≡ 0 → S.tells shelf.old ≡ true → Clears (S.contents shelf.old) (map (λ w. string_bytes w) words.now) (Appends (O.taken out.old) (O.taken out.new)) }
+
+    // When each other status comes, with its line, and what it leaves of `out`.
     ensures words { (result ≡ 2) ↔ ((p g a : List ℕ) → ¬ (IsClear (map (λ w. string_bytes w) words.now) p g a)) }
-    ensures nothing { (result ≡ 2) ⊎ (result ≡ 3) ⊎ (result ≡ 4) → O.taken out.new ≡ O.taken out.old }
+    ensures ended { EndsBy (IsCauseOf (map (λ w. string_bytes w) words.now) (S.tells shelf.old) (S.contents shelf.old) (S.faults shelf.old) (S.faults shelf.new)) result (E.taken err.old) (E.taken err.new) (E.faults err.old) (E.faults err.new) }
     ensures unwritable { result ≡ 5 → Rose (O.faults out.old) (O.faults out.new) }
-    ensures line { EndsBy result (E.taken err.old) (E.taken err.new) (E.faults err.old) (E.faults err.new) }
+    ensures broken_off { result ≡ 5 → S.tells shelf.old ≡ true → Clears (S.contents shelf.old) (map (λ w. string_bytes w) words.now) (AppendsPart (O.taken out.old) (O.taken out.new)) }
+    ensures nothing { (result ≡ 2) ⊎ (result ≡ 3) ⊎ (result ≡ 4) ⊎ (result ≡ 6) → O.taken out.new ≡ O.taken out.old }
 {
     let ended = match clear_files(words) {
         Some(files) => clear_to(alloc, files, shelf, out),

@@ -1,6 +1,6 @@
-ghost use Rattle.std.specs.Prelude.{◌≡◌, ◌<◌, ◌^◌, true, ℕ, List, length, map, Some, IfOk, IfErr};
+ghost use Rattle.std.specs.Prelude.{◌≡◌, ◌≤◌, ◌<◌, ◌^◌, true, ℕ, List, length, map, Some, IfOk, IfErr};
 ghost use Rattle.sl_run.specs.Tables.{IsPoolTable, IsProgrammeTable, IsApplicationTable};
-ghost use Rattle.sl_run.specs.Run.{Hold, is_of_files};
+ghost use Rattle.sl_run.specs.Run.{Hold, IsCause, IsFetchCause, is_of_files, is_of_reader};
 
 use crate::applications::read_applications;
 use crate::coded::Coded;
@@ -23,7 +23,7 @@ pub struct Named {
 
 // What a reader's refusal means for the command.
 fn refusal(part: Part, error: ReadError) -> Failure
-    ensures { is_of_files result ≡ true }
+    ensures { is_of_reader result ≡ true }
 {
     match error {
         ReadError::NotPlain => Failure::NotPlain(part),
@@ -36,7 +36,9 @@ fn fetch<S: Shelf>(alloc: Global, shelf: &mut S, part: Part, name: &str) -> Resu
     ensures told { IfOk result (λ v. S.tells shelf.old ≡ true → S.contents shelf.old name.now ≡ Some v.items) }
     ensures still_tells { S.tells shelf.new ≡ S.tells shelf.old }
     ensures same { (n : List ℕ) → S.contents shelf.new n ≡ S.contents shelf.old n }
+    ensures never_falls { (n : List ℕ) → S.faults shelf.old n ≤ S.faults shelf.new n }
     ensures late { IfErr result (λ failure. is_of_files failure ≡ true) }
+    ensures cause { IfErr result (IsFetchCause part (S.tells shelf.old) (S.contents shelf.old name.now) (S.faults shelf.old name.now) (S.faults shelf.new name.now)) }
 {
     let mut bytes = Vec::new(alloc);
     match shelf.fetch(name, &mut bytes) {
@@ -49,7 +51,7 @@ fn fetch<S: Shelf>(alloc: Global, shelf: &mut S, part: Part, name: &str) -> Resu
 
 fn pools_of(alloc: Global, bytes: &[u8]) -> Result<Coded<Pool>, Failure>
     ensures table { IfOk result (λ t. IsPoolTable bytes.now t.codes t.values.items) }
-    ensures late { IfErr result (λ failure. is_of_files failure ≡ true) }
+    ensures refused { IfErr result (λ failure. is_of_reader failure ≡ true) }
 {
     let text = ascii_text(bytes).ok_or(Failure::NotPlain(Part::Pools))?;
     read_pools(alloc, text).map_err(|error| refusal(Part::Pools, error))
@@ -58,7 +60,7 @@ fn pools_of(alloc: Global, bytes: &[u8]) -> Result<Coded<Pool>, Failure>
 fn programmes_of(alloc: Global, bytes: &[u8], pools: &Codes) -> Result<Coded<PoolId>, Failure>
     requires { length pools.now < 2 ^ 32 }
     ensures table { IfOk result (λ t. IsProgrammeTable pools.now bytes.now t.codes t.values.items) }
-    ensures late { IfErr result (λ failure. is_of_files failure ≡ true) }
+    ensures refused { IfErr result (λ failure. is_of_reader failure ≡ true) }
 {
     let text = ascii_text(bytes).ok_or(Failure::NotPlain(Part::Programmes))?;
     read_programmes(alloc, text, pools).map_err(|error| refusal(Part::Programmes, error))
@@ -71,7 +73,7 @@ fn applications_of(
 ) -> Result<Coded<Vec<Entry>>, Failure>
     requires { length programmes.now < 2 ^ 32 }
     ensures table { IfOk result (λ t. IsApplicationTable programmes.now bytes.now t.codes (map (λ l. l.items) t.values.items)) }
-    ensures late { IfErr result (λ failure. is_of_files failure ≡ true) }
+    ensures refused { IfErr result (λ failure. is_of_reader failure ≡ true) }
 {
     let text = ascii_text(bytes).ok_or(Failure::NotPlain(Part::Applications))?;
     read_applications(alloc, text, programmes).map_err(|error| refusal(Part::Applications, error))
@@ -85,6 +87,7 @@ pub fn read_files<S: Shelf>(
 ) -> Result<Named, Failure>
     ensures held { IfOk result (λ n. S.tells shelf.old ≡ true → Hold (S.contents shelf.old) files.entry.pools.now files.entry.programmes.now files.entry.applications.now n.instance n.pool_codes) }
     ensures each { IfOk result (λ n. length n.pool_codes ≡ length n.instance.pools) }
+    ensures cause { IfErr result (IsCause (S.tells shelf.old) (S.contents shelf.old) (S.faults shelf.old) (S.faults shelf.new) files.entry.pools.now files.entry.programmes.now files.entry.applications.now) }
     ensures late { IfErr result (λ failure. is_of_files failure ≡ true) }
 {
     let bytes = fetch(alloc, shelf, Part::Pools, files.pools)?;

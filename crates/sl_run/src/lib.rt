@@ -11,9 +11,11 @@ mod fields;
 mod files;
 mod pools;
 mod programmes;
+mod theorems;
 mod words;
 
 pub use command::run;
+pub use theorems::tables_are_one;
 
 #[cfg(test)]
 mod tests;
