@@ -1,8 +1,8 @@
 //! Clears a round of admissions from the command line.
 #![tactic(auto)]
 
-ghost use Rattle.std.specs.Prelude.{◌≡◌, ◌↔◌, ℕ, List, map, string_bytes};
-ghost use Rattle.sl_run.specs.Words.{IsClear};
+ghost use Rattle.std.specs.Prelude.{◌≡◌, ◌↔◌, map, string_bytes};
+ghost use Rattle.sl_run.specs.Words.{AreNoCommand};
 
 use sl_io::{FileShelf, OutSink};
 use sl_run::run;
@@ -21,7 +21,7 @@ fn words_after_name<R: Env + AllocGlobal>(rt: &R) -> io::Result<Vec<String>> {
 
 // Carries out a command over the files and the standard streams. Answers the status.
 fn carry_out(rt: &HostRuntime, words: &[String]) -> u8
-    ensures { (result ≡ 2) ↔ ((p g a : List ℕ) → ¬ (IsClear (map (λ w. string_bytes w) words.now) p g a)) }
+    ensures { (result ≡ 2) ↔ AreNoCommand (map (λ w. string_bytes w) words.now) }
 {
     let mut shelf = FileShelf::new(rt);
     let mut out = OutSink::new(rt.stdout());

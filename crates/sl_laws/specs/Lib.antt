@@ -3,3 +3,4 @@ pub mod Stable
 pub mod Raises
 pub mod Best
 pub mod Laws
+pub mod Outcome

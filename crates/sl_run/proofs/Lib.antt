@@ -1,7 +1,11 @@
 pub mod Splitting
 pub mod Rows
 pub mod Turns
+pub mod Alike
+pub mod Refused
 pub mod Raising
 pub mod Commands
 pub mod Writing
 pub mod Unique
+pub mod Accepting
+pub mod Ending

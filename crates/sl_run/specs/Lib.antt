@@ -1,8 +1,12 @@
 pub mod Fields
 pub mod Tables
 pub mod Clearing
-pub mod ResultText
 pub mod Words
+pub mod Accepted
+pub mod Document
+pub mod ResultText
 pub mod Failures
+pub mod Causes
+pub mod Fetching
 pub mod Reports
 pub mod Run

@@ -1,12 +1,12 @@
 -- The three tables in the plain form: what a row says, and what a table holds.
-use Rattle.std.specs.Prelude.{◌≡◌, ◌≤◌, ℕ, Bool, true, ◌&&◌, List, [], ◌∷◌, ◌++◌, length, nat_le, map, cond, Option, Some, None, option_map, option_and_then, codes}
+use Rattle.std.specs.Prelude.{◌≡◌, ◌≢◌, ◌≤◌, ◌+◌, ◌⊎◌, ℕ, Bool, true, ◌&&◌, List, [], ◌∷◌, ◌++◌, length, nat_le, map, cond, Option, Some, None, option_map, option_and_then, codes}
 use Rattle.std.specs.List.{zip, IsDistinct, list_all}
-use Rattle.std.specs.Str.{bytes_eq}
+use Rattle.std.specs.Str.{IsAscii, bytes_eq}
 use Rattle.sl_types.specs.declared.kinds.Pool.{Pool}
 use Rattle.sl_types.specs.declared.kinds.PoolId.{PoolId}
 use Rattle.sl_types.specs.declared.kinds.Entry.{Entry}
 use Rattle.sl_types.specs.declared.kinds.Rule.TheVariants.{H}
-use Rattle.sl_types.specs.declared.kinds.TheConstants.{MAX_QUOTA, MAX_PLACE, MAX_SCORE, MAX_POOLS, MAX_PROGRAMMES}
+use Rattle.sl_types.specs.declared.kinds.TheConstants.{MAX_QUOTA, MAX_PLACE, MAX_SCORE, MAX_POOLS, MAX_PROGRAMMES, MAX_APPLICANTS}
 use Rattle.sl_codes.specs.Codes.{number_of}
 use Rattle.sl_run.specs.Fields.{HasRows, fields_of, is_code, number_of_field}
 
@@ -66,19 +66,21 @@ programme_header = codes "programme,pool"
 abbrev pub application_header : List ℕ
 application_header = codes "applicant,place,programme,score"
 
+-- a table in the plain form: under its header each row says the next code and its value, and no code stands twice
+pub record IsTable {A : Type 0} (header : List ℕ) (row : List ℕ → Option (List ℕ × A)) (most : ℕ) (text : List ℕ) (table_codes : List (List ℕ)) (values : List A) : Type 0 where
+  pub ascii : IsAscii text
+  pub rows : (lines : List (List ℕ)) × HasRows header text lines × Say row lines (zip table_codes values)
+  pub each : length table_codes ≡ length values
+  pub once : IsDistinct bytes_eq table_codes
+  pub few : length values ≤ most
+
 -- a pool table in the plain form, with these codes and pools
-pub record IsPoolTable (text : List ℕ) (pool_codes : List (List ℕ)) (pools : List Pool) : Type 0 where
-  pub rows : (lines : List (List ℕ)) × HasRows pool_header text lines × Say pool_row lines (zip pool_codes pools)
-  pub each : length pool_codes ≡ length pools
-  pub once : IsDistinct bytes_eq pool_codes
-  pub few : length pools ≤ MAX_POOLS
+abbrev pub IsPoolTable : List ℕ → List (List ℕ) → List Pool → Type 0
+IsPoolTable text pool_codes pools = IsTable pool_header pool_row MAX_POOLS text pool_codes pools
 
 -- a programme table in the plain form over these pools, with these codes and each programme's pool
-pub record IsProgrammeTable (pool_codes : List (List ℕ)) (text : List ℕ) (prog_codes : List (List ℕ)) (progs : List PoolId) : Type 0 where
-  pub rows : (lines : List (List ℕ)) × HasRows programme_header text lines × Say (programme_row pool_codes) lines (zip prog_codes progs)
-  pub each : length prog_codes ≡ length progs
-  pub once : IsDistinct bytes_eq prog_codes
-  pub few : length progs ≤ MAX_PROGRAMMES
+abbrev pub IsProgrammeTable : List (List ℕ) → List ℕ → List (List ℕ) → List PoolId → Type 0
+IsProgrammeTable pool_codes text prog_codes progs = IsTable programme_header (programme_row pool_codes) MAX_PROGRAMMES text prog_codes progs
 
 -- the choices of the first applicant, then those of the second and so on, each with its applicant's code
 abbrev pub choices_in_turn : List (List ℕ) → List (List Entry) → List (List ℕ × Entry)
@@ -90,12 +92,19 @@ abbrev pub have_choices : List (List Entry) → Bool
 have_choices lists = list_all (λ l. nat_le 1 (length l)) lists
 
 -- the rows of an application table in the plain form over these programmes, with these codes and lists: each applicant has
--- a row, and the rows of one applicant stand together. The places, and how many there may be, are a matter of the instance
+-- a row, and the rows of one applicant stand together. The places, and how many rows there may be, are a matter of the instance
 pub record IsApplicationTable (prog_codes : List (List ℕ)) (text : List ℕ) (app_codes : List (List ℕ)) (lists : List (List Entry)) : Type 0 where
+  pub ascii : IsAscii text
   pub rows : (lines : List (List ℕ)) × HasRows application_header text lines × Say (choice_row prog_codes) lines (choices_in_turn app_codes lists)
   pub each : length app_codes ≡ length lists
   pub once : IsDistinct bytes_eq app_codes
   pub some : have_choices lists ≡ true
+  pub few : length lists ≤ MAX_APPLICANTS
+
+-- no row of this applicant may come next: others came after its own, or it is new where there are all that there may be
+abbrev pub BreaksTurns : List (List ℕ) → List ℕ → Type 0
+BreaksTurns app_codes code =
+    ((n : ℕ) × (number_of app_codes code ≡ Some n) × (n + 1 ≢ length app_codes)) ⊎ ((number_of app_codes code ≡ None) × (MAX_APPLICANTS ≤ length app_codes))
 
 -- lists of which the last has one more choice
 abbrev pub extended : List (List Entry) → Entry → List (List Entry)

@@ -1,5 +1,5 @@
-ghost use Rattle.std.specs.Prelude.{◌≡◌, ◌≤◌, ◌<◌, ◌^◌, ⊤, length, map, MatchOption, IfOk, OnOk, Some};
-ghost use Rattle.sl_run.specs.Tables.{IsApplicationTable, AddsChoice, choice_row, extended};
+ghost use Rattle.std.specs.Prelude.{◌≡◌, ◌≤◌, ◌<◌, ◌^◌, ℕ, List, length, map, MatchOption, IfOk, IsErrOf, OnOk, Some, None};
+ghost use Rattle.sl_run.specs.Tables.{IsApplicationTable, AddsChoice, BreaksTurns, choice_row, extended};
 
 use crate::coded::Coded;
 use crate::fields::{self, ReadError};
@@ -12,7 +12,7 @@ const HEADER: &str = "applicant,place,programme,score";
 // The applicant's code and the choice of a row.
 fn choice_row<'a>(line: &'a str, programmes: &Codes) -> Option<(&'a str, Entry)>
     requires { length programmes.now < 2 ^ 32 }
-    ensures { MatchOption result ⊤ (λ r. choice_row programmes.now line.now ≡ Some (r.0.now, r.1)) }
+    ensures { MatchOption result (choice_row programmes.now line.now ≡ None) (λ r. choice_row programmes.now line.now ≡ Some (r.0.now, r.1)) }
 {
     let (code, place, programme, score) = fields::four_fields(line)?;
     if !fields::is_code(code) {
@@ -45,6 +45,7 @@ fn add_choice(
     requires each { length table.old.codes ≡ length table.old.values.items }
     ensures added { OnOk result (AddsChoice table.old.codes (map (λ l. l.items) table.old.values.items) table.new.codes (map (λ l. l.items) table.new.values.items) code.now choice) }
     ensures few { OnOk result (length table.new.codes ≤ MAX_APPLICANTS) }
+    ensures not_plain { IsErrOf result ReadError.NotPlain → BreaksTurns table.old.codes code.now }
 {
     match table.codes.find(code) {
         Some(number) => {
@@ -60,16 +61,20 @@ fn add_choice(
     }
 }
 
-/// Reads the rows of an application table in the plain form, over the codes of the programmes. The rows of
-/// one applicant stand together; whether their places rise is left to the instance.
+/// Reads the rows of an application table over the codes of the programmes, where it is in the plain form. The
+/// rows of one applicant stand together; whether their places rise is left to the instance.
 pub fn read_applications(
     alloc: Global,
-    text: &str,
+    bytes: &[u8],
     programmes: &Codes,
 ) -> Result<Coded<Vec<Entry>>, ReadError>
     requires { length programmes.now < 2 ^ 32 }
-    ensures { IfOk result (λ t. IsApplicationTable programmes.now text.now t.codes (map (λ l. l.items) t.values.items)) }
+    ensures table { IfOk result (λ t. IsApplicationTable programmes.now bytes.now t.codes (map (λ l. l.items) t.values.items)) }
+    ensures refused { IsErrOf result ReadError.NotPlain → (app_codes : List (List ℕ)) (lists : List (List Entry)) → ¬ (IsApplicationTable programmes.now bytes.now app_codes lists) }
 {
+    let Some(text) = fields::ascii_text(bytes) else {
+        return Err(ReadError::NotPlain);
+    };
     let Ok(lines) = fields::lines(alloc, text) else {
         return Err(ReadError::OutOfMemory);
     };

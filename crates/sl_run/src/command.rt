@@ -1,28 +1,31 @@
-ghost use Rattle.std.specs.Prelude.{◌≡◌, ◌⊎◌, ◌↔◌, true, ℕ, List, length, map, string_bytes, IfOk, IfErr, OnOk, IsErrOf};
+ghost use Rattle.std.specs.Prelude.{◌≡◌, ◌⊎◌, ◌↔◌, true, map, string_bytes, IfOk, IfErr, OnOk, IsErrOf};
 ghost use Rattle.std.specs.Io.KnownBytes.{Appends};
 ghost use Rattle.sl_io.specs.Count.{Rose};
 ghost use Rattle.sl_io.specs.Sink.{AppendsPart};
-ghost use Rattle.sl_run.specs.Words.{IsClear};
-ghost use Rattle.sl_run.specs.Run.{Clears, Delivers, EndsBy, IsCause, IsCauseOf, IsText, Leaves};
+ghost use Rattle.sl_run.specs.Words.{AreNoCommand, IsCommand, table_names};
+ghost use Rattle.sl_run.specs.Causes.{IsCause, IsCauseOf, Refuses, Completes};
+ghost use Rattle.sl_run.specs.Run.{Clears, Delivers, EndsBy, Leaves};
+ghost use Rattle.sl_run.specs.Document.{Document, IsResultOf};
+ghost use Rattle.sl_run.specs.ResultText.{result_text};
 
-use crate::clearing::clear;
 use crate::document::result_text;
 use crate::failure::{Failure, report};
-use crate::files::{Named, read_files};
+use crate::files::read_files;
+use crate::named::Named;
+use crate::outcome::result_of;
 use crate::words::{Files, clear_files};
 use sl_io::{Shelf, Sink};
 use std::alloc::Global;
 
-// The text of an instance's least stable limits.
+// The text of the result of an instance.
 fn cleared_text(alloc: Global, named: &Named) -> Result<String, Failure>
-    requires { length named.now.pool_codes ≡ length named.now.instance.pools }
-    ensures text { IfOk result (λ text. IsText named.now.instance named.now.pool_codes (string_bytes text)) }
+    ensures text { IfOk result (λ text. (doc : Document) × IsResultOf named.now.market doc × (string_bytes text ≡ result_text named.now doc)) }
     ensures memory { IfErr result (λ failure. failure ≡ Failure.OutOfMemory) }
 {
-    let Ok(clearing) = clear(alloc, &named.instance) else {
+    let Ok(doc) = result_of(alloc, named.instance()) else {
         return Err(Failure::OutOfMemory);
     };
-    match result_text(alloc, &named.instance, &named.pool_codes, &clearing.limits) {
+    match result_text(alloc, named, &doc) {
         Ok(text) => Ok(text),
         Err(_) => Err(Failure::OutOfMemory),
     }
@@ -35,9 +38,9 @@ fn clear_to<S: Shelf, O: Sink>(
     shelf: &mut S,
     out: &mut O,
 ) -> Result<(), Failure>
-    ensures delivered { OnOk result (S.tells shelf.old ≡ true → Delivers (S.contents shelf.old) files.entry.pools.now files.entry.programmes.now files.entry.applications.now (Appends (O.taken out.old) (O.taken out.new))) }
-    ensures broken_off { IsErrOf result Failure.Unwritable → S.tells shelf.old ≡ true → Delivers (S.contents shelf.old) files.entry.pools.now files.entry.programmes.now files.entry.applications.now (AppendsPart (O.taken out.old) (O.taken out.new)) }
-    ensures cause { IfErr result (IsCause (S.tells shelf.old) (S.contents shelf.old) (S.faults shelf.old) (S.faults shelf.new) files.entry.pools.now files.entry.programmes.now files.entry.applications.now) }
+    ensures delivered { OnOk result (S.tells shelf.old ≡ true → Delivers (S.contents shelf.old) (table_names files.entry.pools.now files.entry.programmes.now files.entry.applications.now) (Appends (O.taken out.old) (O.taken out.new))) }
+    ensures broken_off { IsErrOf result Failure.Unwritable → S.tells shelf.old ≡ true → Delivers (S.contents shelf.old) (table_names files.entry.pools.now files.entry.programmes.now files.entry.applications.now) (AppendsPart (O.taken out.old) (O.taken out.new)) }
+    ensures cause { IfErr result (IsCause (S.tells shelf.old) (S.contents shelf.old) (table_names files.entry.pools.now files.entry.programmes.now files.entry.applications.now) (S.faults shelf.old) (S.faults shelf.new)) }
     ensures left { IfErr result (λ failure. Leaves failure (O.taken out.old) (O.taken out.new) (O.faults out.old) (O.faults out.new)) }
 {
     let named = read_files(alloc, files, shelf)?;
@@ -45,6 +48,25 @@ fn clear_to<S: Shelf, O: Sink>(
     match out.put(text.as_bytes()) {
         Ok(()) => Ok(()),
         Err(_) => Err(Failure::Unwritable),
+    }
+}
+
+// Carries out the command of the words.
+fn perform<S: Shelf, O: Sink>(
+    alloc: Global,
+    words: &[String],
+    shelf: &mut S,
+    out: &mut O,
+) -> Result<(), Failure>
+    ensures command { OnOk result (IsCommand (map (λ w. string_bytes w) words.now)) }
+    ensures cleared { OnOk result (S.tells shelf.old ≡ true → Clears (S.contents shelf.old) (map (λ w. string_bytes w) words.now) (Appends (O.taken out.old) (O.taken out.new))) }
+    ensures broken_off { IsErrOf result Failure.Unwritable → S.tells shelf.old ≡ true → Clears (S.contents shelf.old) (map (λ w. string_bytes w) words.now) (AppendsPart (O.taken out.old) (O.taken out.new)) }
+    ensures cause { IfErr result (IsCauseOf (map (λ w. string_bytes w) words.now) (S.tells shelf.old) (S.contents shelf.old) (S.faults shelf.old) (S.faults shelf.new)) }
+    ensures left { IfErr result (λ failure. Leaves failure (O.taken out.old) (O.taken out.new) (O.faults out.old) (O.faults out.new)) }
+{
+    match clear_files(words) {
+        Some(files) => clear_to(alloc, files, shelf, out),
+        None => Err(Failure::Words),
     }
 }
 
@@ -62,17 +84,15 @@ pub fn run<S: Shelf, O: Sink, E: Sink>(
     ensures cleared { result ≡ 0 → S.tells shelf.old ≡ true → Clears (S.contents shelf.old) (map (λ w. string_bytes w) words.now) (Appends (O.taken out.old) (O.taken out.new)) }
 
     // When each other status comes, with its line, and what it leaves of `out`.
-    ensures words { (result ≡ 2) ↔ ((p g a : List ℕ) → ¬ (IsClear (map (λ w. string_bytes w) words.now) p g a)) }
+    ensures words { (result ≡ 2) ↔ AreNoCommand (map (λ w. string_bytes w) words.now) }
     ensures ended { EndsBy (IsCauseOf (map (λ w. string_bytes w) words.now) (S.tells shelf.old) (S.contents shelf.old) (S.faults shelf.old) (S.faults shelf.new)) result (E.taken err.old) (E.taken err.new) (E.faults err.old) (E.faults err.new) }
     ensures unwritable { result ≡ 5 → Rose (O.faults out.old) (O.faults out.new) }
     ensures broken_off { result ≡ 5 → S.tells shelf.old ≡ true → Clears (S.contents shelf.old) (map (λ w. string_bytes w) words.now) (AppendsPart (O.taken out.old) (O.taken out.new)) }
+    ensures refused { S.tells shelf.old ≡ true → Refuses (map (λ w. string_bytes w) words.now) (S.contents shelf.old) (S.faults shelf.old) (S.faults shelf.new) result }
+    ensures completed { S.tells shelf.old ≡ true → Completes (map (λ w. string_bytes w) words.now) (S.contents shelf.old) (S.faults shelf.old) (S.faults shelf.new) (O.faults out.old) (O.faults out.new) result }
     ensures nothing { (result ≡ 2) ⊎ (result ≡ 3) ⊎ (result ≡ 4) ⊎ (result ≡ 6) → O.taken out.new ≡ O.taken out.old }
 {
-    let ended = match clear_files(words) {
-        Some(files) => clear_to(alloc, files, shelf, out),
-        None => Err(Failure::Words),
-    };
-    match ended {
+    match perform(alloc, words, shelf, out) {
         Ok(()) => 0,
         Err(failure) => {
             report(failure, err);

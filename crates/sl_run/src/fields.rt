@@ -1,6 +1,7 @@
-ghost use Rattle.std.specs.Prelude.{◌≡◌, ◌∷◌, ◌++◌, ◌==◌, [], ⊤, length, map, MatchOption, IfOk, IfSome, OnOk, Some, None, option_map};
+ghost use Rattle.std.specs.Prelude.{◌≡◌, ◌≢◌, ◌∷◌, ◌++◌, ◌==◌, [], ⊤, ℕ, List, length, map, MatchOption, IfOk, OnOk, Some, None, option_map};
 ghost use Rattle.std.specs.List.{list_all};
 ghost use Rattle.std.specs.Char.{is_ascii_digit};
+ghost use Rattle.std.specs.Str.{IsAscii};
 ghost use Rattle.sl_run.specs.Tables.{number_within};
 ghost use Rattle.sl_run.specs.Fields.{lines_of, fields_of, is_code, is_code_byte, is_number, number_of_field};
 
@@ -14,9 +15,9 @@ pub enum ReadError {
     OutOfMemory,
 }
 
-/// The text of a file in ASCII.
+/// The text of a file, where it is ASCII.
 pub fn ascii_text(bytes: &[u8]) -> Option<&str>
-    ensures { IfSome result (λ text. text.now ≡ bytes.now) }
+    ensures { MatchOption result (¬ (IsAscii bytes.now)) (λ text. (text.now ≡ bytes.now) × IsAscii bytes.now) }
 {
     if !bytes.is_ascii() {
         return None;
@@ -33,11 +34,14 @@ pub fn lines(alloc: Global, text: &str) -> Result<Vec<&str>, AllocError>
 
 /// The lines between the header and the end of the last line.
 pub fn rows_of<'a, 'b>(lines: &'b [&'a str], header: &str) -> Option<&'b [&'a str]>
-    ensures { IfSome result (λ rows. map (λ s. s.now) lines.now ≡ header.now ∷ (map (λ s. s.now) rows.now ++ ([] ∷ []))) }
+    ensures { MatchOption result ((rows : List (List ℕ)) → ¬ (map (λ s. s.now) lines.now ≡ header.now ∷ (rows ++ ([] ∷ [])))) (λ rows. map (λ s. s.now) lines.now ≡ header.now ∷ (map (λ s. s.now) rows.now ++ ([] ∷ []))) }
 {
-    match lines {
-        [first, rows @ .., last] if *first == header && last.is_empty() => Some(rows),
-        _ => None,
+    let (first, rest) = lines.split_first()?;
+    let (last, rows) = rest.split_last()?;
+    if *first == header && last.is_empty() {
+        Some(rows)
+    } else {
+        None
     }
 }
 
@@ -50,7 +54,7 @@ fn cut(line: &str) -> Option<(&str, &str)>
 
 /// The two fields of a line.
 pub fn two_fields(line: &str) -> Option<(&str, &str)>
-    ensures { IfSome result (λ f. fields_of line.now ≡ f.0.now ∷ f.1.now ∷ []) }
+    ensures { MatchOption result (length (fields_of line.now) ≢ 2) (λ f. fields_of line.now ≡ f.0.now ∷ f.1.now ∷ []) }
 {
     let (first, second) = cut(line)?;
     match cut(second) {
@@ -61,7 +65,7 @@ pub fn two_fields(line: &str) -> Option<(&str, &str)>
 
 /// The four fields of a line.
 pub fn four_fields(line: &str) -> Option<(&str, &str, &str, &str)>
-    ensures { IfSome result (λ f. fields_of line.now ≡ f.0.now ∷ f.1.now ∷ f.2.now ∷ f.3.now ∷ []) }
+    ensures { MatchOption result (length (fields_of line.now) ≢ 4) (λ f. fields_of line.now ≡ f.0.now ∷ f.1.now ∷ f.2.now ∷ f.3.now ∷ []) }
 {
     let (first, rest) = cut(line)?;
     let (second, rest) = cut(rest)?;

@@ -9,6 +9,8 @@ mod document;
 mod failure;
 mod fields;
 mod files;
+mod named;
+mod outcome;
 mod pools;
 mod programmes;
 mod theorems;

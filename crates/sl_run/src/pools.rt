@@ -1,5 +1,5 @@
-ghost use Rattle.std.specs.Prelude.{◌≡◌, ⊤, MatchOption, IfOk, Some};
-ghost use Rattle.sl_run.specs.Tables.{IsPoolTable, pool_row, pool_header};
+ghost use Rattle.std.specs.Prelude.{◌≡◌, ℕ, List, MatchOption, IfOk, IsErrOf, Some, None};
+ghost use Rattle.sl_run.specs.Tables.{IsPoolTable, pool_row};
 
 use crate::coded::Coded;
 use crate::fields::{self, ReadError};
@@ -10,7 +10,7 @@ const HEADER: &str = "pool,quota,parent,kind";
 
 // The code and the pool of a row.
 fn pool_row(line: &str) -> Option<(&str, Pool)>
-    ensures { MatchOption result ⊤ (λ r. pool_row line.now ≡ Some (r.0.now, r.1)) }
+    ensures { MatchOption result (pool_row line.now ≡ None) (λ r. pool_row line.now ≡ Some (r.0.now, r.1)) }
 {
     let (code, quota, parent, kind) = fields::four_fields(line)?;
     if !fields::is_code(code) || !parent.is_empty() || kind != "score" {
@@ -25,10 +25,14 @@ fn pool_row(line: &str) -> Option<(&str, Pool)>
     Some((code, pool))
 }
 
-/// Reads a pool table in the plain form.
-pub fn read_pools(alloc: Global, text: &str) -> Result<Coded<Pool>, ReadError>
-    ensures { IfOk result (λ t. IsPoolTable text.now t.codes t.values.items) }
+/// Reads a pool table, where it is in the plain form.
+pub fn read_pools(alloc: Global, bytes: &[u8]) -> Result<Coded<Pool>, ReadError>
+    ensures table { IfOk result (λ t. IsPoolTable bytes.now t.codes t.values.items) }
+    ensures refused { IsErrOf result ReadError.NotPlain → (table_codes : List (List ℕ)) (values : List Pool) → ¬ (IsPoolTable bytes.now table_codes values) }
 {
+    let Some(text) = fields::ascii_text(bytes) else {
+        return Err(ReadError::NotPlain);
+    };
     let Ok(lines) = fields::lines(alloc, text) else {
         return Err(ReadError::OutOfMemory);
     };

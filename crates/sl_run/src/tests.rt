@@ -29,7 +29,8 @@ const ONE_PROGRAMME: &str = "programme,pool\na,A\n";
 const DISPLACED: &str =
     "applicant,place,programme,score\nx,1,a,10\nx,2,b,10\ny,1,b,9\ny,2,a,12\nz,1,b,11\n";
 
-const DISPLACED_TEXT: &str = "result,1,,\nrule,H,,\nlimit,A,11,1\nlimit,B,11,1\nend,4,,\n";
+const DISPLACED_TEXT: &str =
+    "result,1,,\nrule,H,,\nlimit,A,11,1\nlimit,B,11,1\nadmit,x,0,\nadmit,y,2,a\nadmit,z,1,b\nraise,B,10,\nraise,A,11,\nraise,B,11,\nend,10,,\n";
 
 const NOBODY: &str = "applicant,place,programme,score\n";
 
@@ -104,7 +105,7 @@ fn worked_examples(rt: HostRuntime) -> Result<(), Fail> {
             programmes: TWO_PROGRAMMES,
             applications: "applicant,place,programme,score\nx,1,a,10\nx,2,b,10\ny,1,a,8\ny,2,b,8\nz,1,b,9\n",
             status: 0,
-            out: "result,1,,\nrule,H,,\nlimit,A,9,1\nlimit,B,9,1\nend,4,,\n",
+            out: "result,1,,\nrule,H,,\nlimit,A,9,1\nlimit,B,9,1\nadmit,x,1,a\nadmit,y,0,\nadmit,z,1,b\nraise,A,9,\nraise,B,9,\nend,9,,\n",
             err: "",
         },
         Case {
@@ -113,7 +114,7 @@ fn worked_examples(rt: HostRuntime) -> Result<(), Fail> {
             programmes: ONE_PROGRAMME,
             applications: "applicant,place,programme,score\nx,1,a,10\ny,1,a,10\nz,1,a,5\n",
             status: 0,
-            out: "result,1,,\nrule,H,,\nlimit,A,11,0\nend,3,,\n",
+            out: "result,1,,\nrule,H,,\nlimit,A,11,0\nadmit,x,0,\nadmit,y,0,\nadmit,z,0,\nraise,A,11,\nend,7,,\n",
             err: "",
         },
         Case {
@@ -122,7 +123,7 @@ fn worked_examples(rt: HostRuntime) -> Result<(), Fail> {
             programmes: "programme,pool\na1,A\na2,A\n",
             applications: "applicant,place,programme,score\nx,1,a1,10\nx,2,a2,14\ny,1,a1,12\n",
             status: 0,
-            out: "result,1,,\nrule,H,,\nlimit,A,13,1\nend,3,,\n",
+            out: "result,1,,\nrule,H,,\nlimit,A,13,1\nadmit,x,2,a2\nadmit,y,0,\nraise,A,13,\nend,6,,\n",
             err: "",
         },
         Case {
@@ -140,7 +141,16 @@ fn worked_examples(rt: HostRuntime) -> Result<(), Fail> {
             programmes: TWO_PROGRAMMES,
             applications: "applicant,place,programme,score\nx,1,a,5\nx,2,b,6\ny,1,b,5\ny,2,a,6\n",
             status: 0,
-            out: "result,1,,\nrule,H,,\nlimit,A,0,1\nlimit,B,0,1\nend,4,,\n",
+            out: "result,1,,\nrule,H,,\nlimit,A,0,1\nlimit,B,0,1\nadmit,x,1,a\nadmit,y,1,b\nend,6,,\n",
+            err: "",
+        },
+        Case {
+            name: "longest code",
+            pools: "pool,quota,parent,kind\nAAAAAAAAAAAAAAAAAAAAAAAAAAAAAAAAAAAAAAAAAAAAAAAAAAAAAAAAAAAAAAAA,1,,score\n",
+            programmes: "programme,pool\na,AAAAAAAAAAAAAAAAAAAAAAAAAAAAAAAAAAAAAAAAAAAAAAAAAAAAAAAAAAAAAAAA\n",
+            applications: NOBODY,
+            status: 0,
+            out: "result,1,,\nrule,H,,\nlimit,AAAAAAAAAAAAAAAAAAAAAAAAAAAAAAAAAAAAAAAAAAAAAAAAAAAAAAAAAAAAAAAA,0,0\nend,3,,\n",
             err: "",
         },
         Case {
@@ -149,7 +159,7 @@ fn worked_examples(rt: HostRuntime) -> Result<(), Fail> {
             programmes: ONE_PROGRAMME,
             applications: "applicant,place,programme,score\nx,1,a,1000000\ny,1,a,1000000\n",
             status: 0,
-            out: "result,1,,\nrule,H,,\nlimit,A,1000001,0\nend,3,,\n",
+            out: "result,1,,\nrule,H,,\nlimit,A,1000001,0\nadmit,x,0,\nadmit,y,0,\nraise,A,1000001,\nend,6,,\n",
             err: "",
         },
     ] {
@@ -202,6 +212,29 @@ fn tables_in_another_form(rt: HostRuntime) -> Result<(), Fail> {
             "a letter that isn't ASCII",
             "pool,quota,parent,kind\nÁ,1,,score\n",
         ),
+        (
+            "a byte order mark",
+            "\u{feff}pool,quota,parent,kind\nA,1,,score\nB,1,,score\n",
+        ),
+        (
+            "carriage returns alone",
+            "pool,quota,parent,kind\rA,1,,score\rB,1,,score\r",
+        ),
+        ("a header alone without its end", "pool,quota,parent,kind"),
+        (
+            "a code of 65 bytes",
+            "pool,quota,parent,kind\nAAAAAAAAAAAAAAAAAAAAAAAAAAAAAAAAAAAAAAAAAAAAAAAAAAAAAAAAAAAAAAAAA,1,,score\n",
+        ),
+        (
+            "a code with a blank",
+            "pool,quota,parent,kind\nA A,1,,score\n",
+        ),
+        ("no quota", "pool,quota,parent,kind\nA,,,score\n"),
+        (
+            "a quota with a blank",
+            "pool,quota,parent,kind\nA, 1,,score\n",
+        ),
+        ("no kind", "pool,quota,parent,kind\nA,1,,\n"),
     ] {
         let case = Case {
             name,
@@ -220,6 +253,156 @@ fn tables_in_another_form(rt: HostRuntime) -> Result<(), Fail> {
 #[test]
 fn later_tables_in_another_form(rt: HostRuntime) -> Result<(), Fail> {
     for (name, programmes, applications, err) in [
+        (
+            "carriage returns of programmes",
+            "programme,pool\r\na,A\r\nb,B\r\n",
+            DISPLACED,
+            "programmes: not in the plain form\n",
+        ),
+        (
+            "no header of programmes",
+            "a,A\nb,B\n",
+            DISPLACED,
+            "programmes: not in the plain form\n",
+        ),
+        (
+            "no end of the programmes",
+            "programme,pool\na,A\nb,B",
+            DISPLACED,
+            "programmes: not in the plain form\n",
+        ),
+        (
+            "a blank line of programmes",
+            "programme,pool\na,A\n\nb,B\n",
+            DISPLACED,
+            "programmes: not in the plain form\n",
+        ),
+        (
+            "one field",
+            "programme,pool\na\n",
+            DISPLACED,
+            "programmes: not in the plain form\n",
+        ),
+        (
+            "three fields",
+            "programme,pool\na,A,\n",
+            DISPLACED,
+            "programmes: not in the plain form\n",
+        ),
+        (
+            "five fields",
+            "programme,pool\na,A,,,\n",
+            DISPLACED,
+            "programmes: not in the plain form\n",
+        ),
+        (
+            "an empty code of a programme",
+            "programme,pool\n,A\n",
+            DISPLACED,
+            "programmes: not in the plain form\n",
+        ),
+        (
+            "a code of a programme of 65 bytes",
+            "programme,pool\nAAAAAAAAAAAAAAAAAAAAAAAAAAAAAAAAAAAAAAAAAAAAAAAAAAAAAAAAAAAAAAAAA,A\n",
+            DISPLACED,
+            "programmes: not in the plain form\n",
+        ),
+        (
+            "a programme that isn't ASCII",
+            "programme,pool\ná,A\n",
+            DISPLACED,
+            "programmes: not in the plain form\n",
+        ),
+        (
+            "no pool",
+            "programme,pool\na,\n",
+            DISPLACED,
+            "programmes: not in the plain form\n",
+        ),
+        (
+            "carriage returns of applications",
+            TWO_PROGRAMMES,
+            "applicant,place,programme,score\r\nx,1,a,10\r\n",
+            "applications: not in the plain form\n",
+        ),
+        (
+            "no header of applications",
+            TWO_PROGRAMMES,
+            "x,1,a,10\n",
+            "applications: not in the plain form\n",
+        ),
+        (
+            "no end of the applications",
+            TWO_PROGRAMMES,
+            "applicant,place,programme,score\nx,1,a,10",
+            "applications: not in the plain form\n",
+        ),
+        (
+            "a blank line of applications",
+            TWO_PROGRAMMES,
+            "applicant,place,programme,score\nx,1,a,10\n\ny,1,a,9\n",
+            "applications: not in the plain form\n",
+        ),
+        (
+            "three fields of a choice",
+            TWO_PROGRAMMES,
+            "applicant,place,programme,score\nx,1,a\n",
+            "applications: not in the plain form\n",
+        ),
+        (
+            "five fields of a choice",
+            TWO_PROGRAMMES,
+            "applicant,place,programme,score\nx,1,a,10,\n",
+            "applications: not in the plain form\n",
+        ),
+        (
+            "an empty code of an applicant",
+            TWO_PROGRAMMES,
+            "applicant,place,programme,score\n,1,a,10\n",
+            "applications: not in the plain form\n",
+        ),
+        (
+            "a code of an applicant of 65 bytes",
+            TWO_PROGRAMMES,
+            "applicant,place,programme,score\nAAAAAAAAAAAAAAAAAAAAAAAAAAAAAAAAAAAAAAAAAAAAAAAAAAAAAAAAAAAAAAAAA,1,a,10\n",
+            "applications: not in the plain form\n",
+        ),
+        (
+            "an applicant that isn't ASCII",
+            TWO_PROGRAMMES,
+            "applicant,place,programme,score\nö,1,a,10\n",
+            "applications: not in the plain form\n",
+        ),
+        (
+            "a place above the greatest",
+            TWO_PROGRAMMES,
+            "applicant,place,programme,score\nx,1000001,a,10\n",
+            "applications: not in the plain form\n",
+        ),
+        (
+            "a place of ten digits",
+            TWO_PROGRAMMES,
+            "applicant,place,programme,score\nx,0000000001,a,10\n",
+            "applications: not in the plain form\n",
+        ),
+        (
+            "no score",
+            TWO_PROGRAMMES,
+            "applicant,place,programme,score\nx,1,a,\n",
+            "applications: not in the plain form\n",
+        ),
+        (
+            "a signed score",
+            TWO_PROGRAMMES,
+            "applicant,place,programme,score\nx,1,a,-1\n",
+            "applications: not in the plain form\n",
+        ),
+        (
+            "a place twice",
+            TWO_PROGRAMMES,
+            "applicant,place,programme,score\nx,1,a,10\nx,1,b,10\n",
+            "applications: not in the plain form\n",
+        ),
         (
             "an unknown pool",
             "programme,pool\na,Z\n",
@@ -283,18 +466,61 @@ fn later_tables_in_another_form(rt: HostRuntime) -> Result<(), Fail> {
     Ok(())
 }
 
+// The tables of so many programmes of the pool A, and of one applicant who chose each.
+fn list_of(alloc: Global, choices: u32) -> Result<(String, String), AllocError> {
+    let mut programmes = String::from_str(alloc, "programme,pool\n")?;
+    let mut applications = String::from_str(alloc, NOBODY)?;
+    for place in 1..=choices {
+        programmes.push_str(&format!(in alloc; "p{place},A\n")?)?;
+        applications.push_str(&format!(in alloc; "x,{place},p{place},10\n")?)?;
+    }
+    Ok((programmes, applications))
+}
+
 #[test]
-fn narrow_sink(rt: HostRuntime) -> Result<(), Fail> {
+fn longest_list(rt: HostRuntime) -> Result<(), Fail> {
+    for (choices, status) in [(64, 0), (65, 3)] {
+        let (programmes, applications) = list_of(rt.alloc(), choices)?;
+        let words = words_of(rt.alloc(), &CLEAR)?;
+        let mut shelf = shelf_of(rt.alloc(), ONE_POOL, &programmes, &applications, &[])?;
+        let mut out = MemSink::new(rt.alloc(), 1000)?;
+        let mut err = MemSink::new(rt.alloc(), 1000)?;
+        assert_eq!(rt;
+            run(rt.alloc(), &words, &mut shelf, &mut out, &mut err),
+            status
+        );
+    }
+    Ok(())
+}
+
+// "Displaced twice" into a sink with this much room, which is too little by at least a byte.
+fn expect_broken_off<R: Abort + AllocGlobal>(rt: &R, room: usize) -> Result<(), Fail> {
+    let words = words_of(rt.alloc(), &CLEAR)?;
+    let mut shelf = shelf_of(rt.alloc(), TWO_POOLS, TWO_PROGRAMMES, DISPLACED, &[])?;
+    let mut out = MemSink::new(rt.alloc(), room)?;
+    let mut err = MemSink::new(rt.alloc(), 1000)?;
+    assert_eq!(rt; run(rt.alloc(), &words, &mut shelf, &mut out, &mut err), 5);
+    assert_eq!(rt; out.bytes().len(), room);
+    assert!(rt; DISPLACED_TEXT.as_bytes().starts_with(out.bytes()));
+    assert!(rt; is_text(err.bytes(), "output: cannot be written\n"));
+    Ok(())
+}
+
+#[test]
+fn narrow_sinks(rt: HostRuntime) -> Result<(), Fail> {
+    for room in 0..126 {
+        expect_broken_off(&rt, room)?;
+    }
     let case = Case {
-        name: "narrow sink",
+        name: "a sink that just holds the text",
         pools: TWO_POOLS,
         programmes: TWO_PROGRAMMES,
         applications: DISPLACED,
-        status: 5,
-        out: "result,1,,\nrule,H,,\n",
-        err: "output: cannot be written\n",
+        status: 0,
+        out: DISPLACED_TEXT,
+        err: "",
     };
-    expect(&rt, &case, 20)
+    expect(&rt, &case, 126)
 }
 
 fn expect_faulty<R: Abort + AllocGlobal>(rt: &R, words: &[&str]) -> Result<(), Fail> {

@@ -1,5 +1,5 @@
-ghost use Rattle.std.specs.Prelude.{ℕ, List, map, string_bytes, MatchOption};
-ghost use Rattle.sl_run.specs.Words.{IsClear};
+ghost use Rattle.std.specs.Prelude.{◌≡◌, map, string_bytes, MatchOption};
+ghost use Rattle.sl_run.specs.Words.{AreNoCommand, clear, words_of};
 
 /// The files that a command names.
 #[derive(Clone, Copy, Debug)]
@@ -11,7 +11,7 @@ pub struct Files<'a> {
 
 /// The files of `clear H 1 pools programmes applications`, where the words are of this form.
 pub fn clear_files(words: &[String]) -> Option<Files<'_>>
-    ensures { MatchOption result ((p g a : List ℕ) → ¬ (IsClear (map (λ w. string_bytes w) words.now) p g a)) (λ f. IsClear (map (λ w. string_bytes w) words.now) f.pools.now f.programmes.now f.applications.now) }
+    ensures { MatchOption result (AreNoCommand (map (λ w. string_bytes w) words.now)) (λ f. map (λ w. string_bytes w) words.now ≡ words_of (clear f.pools.now f.programmes.now f.applications.now)) }
 {
     match words {
         [command, rule, workers, pools, programmes, applications]

@@ -1,50 +1,20 @@
-use Rattle.std.proofs.Common.{◌≡◌, ◌∙◌, sym, ap, Ok, Err, inl, inr, arith}
-use Rattle.sl_run.specs.declared.failure.Failure.{Failure}
-use Rattle.sl_run.specs.declared.failure.Failure.TheVariants.{Words, NotPlain, TooLong, Unreadable, Unwritable, OutOfMemory}
-use Rattle.sl_run.specs.Failures.{status_of}
+use Rattle.std.proofs.Common.{◌∙◌, sym, ap, map, string_bytes, Err}
+use Rattle.sl_run.proofs.Ending.{only_output, none_refused, refuses, completes}
 use Rattle.sl_run.proofs.command.run.Goals as goal
-use Rattle.sl_run.proofs.command.run.Goals.{in-Some, in-None}
 
-only_output : (failure : Failure) → status_of failure ≡ 5 → failure ≡ Unwritable
-only_output Words e = absurd (omega (arith, e))
-only_output (NotPlain part) e = absurd (omega (arith, e))
-only_output (TooLong part) e = absurd (omega (arith, e))
-only_output (Unreadable part) e = absurd (omega (arith, e))
-only_output Unwritable e = Rattle.std.proofs.Common.refl
-only_output OutOfMemory e = absurd (omega (arith, e))
-
-pub returns-in-Ok-clause-cleared : goal.returns-in-Ok-clause-cleared
-returns-in-Ok-clause-cleared g c = λ zero tells. elim c.match-clear_files.branch [
-  | in-Some w ↦
-      let ok : w.clear_to-ended.result ≡ Ok c.in-Ok.field-0 = sym w.ended-is ∙ c.in-Ok.is in
-      let files = w.in-Some.files in
-      (files.pools.now, files.programmes.now, files.applications.now, w.in-Some.ensures, rw w.out-is ((rw ok at w.clear_to-ended.ensures.delivered) tells))
-  | in-None w ↦ let no : ⊥ = cc (sym w.ended-is ∙ c.in-Ok.is) in absurd no
-]
-
-pub returns-in-Err-clause-ended : goal.returns-in-Err-clause-ended
-returns-in-Err-clause-ended g c = inr (
-  c.in-Err.failure,
-  c.status.ensures,
-  elim c.match-clear_files.branch [
-    | in-Some w ↦
-        let failed : w.clear_to-ended.result ≡ Err c.in-Err.failure = sym w.ended-is ∙ c.in-Err.is in
-        let files = w.in-Some.files in
-        inr (files.pools.now, files.programmes.now, files.applications.now, w.in-Some.ensures, rw w.shelf-is (rw failed at w.clear_to-ended.ensures.cause))
-    | in-None w ↦
-        let same : c.in-Err.failure ≡ Words = cc (sym w.ended-is ∙ c.in-Err.is) in
-        inl (same, w.in-None.ensures)
-  ],
-  c.report.ensures,
-)
+pub returns-in-Ok-clause-refused : goal.returns-in-Ok-clause-refused
+returns-in-Ok-clause-refused g c = λ tells.
+    let (command, is, delivered) = c.in-Ok.ensures.cleared tells in
+    none_refused (map (λ w. string_bytes w) c.args.words.now) (g.S.Shelf.contents c.args.shelf.now) (g.S.Shelf.faults c.args.shelf.now) (g.S.Shelf.faults c.perform.new.shelf) command delivered.n 0 is delivered.held
 
 pub returns-in-Err-clause-broken_off : goal.returns-in-Err-clause-broken_off
-returns-in-Err-clause-broken_off g c = λ five tells.
-    let output = only_output c.in-Err.failure (sym c.status.ensures ∙ five) in
-    elim c.match-clear_files.branch [
-      | in-Some w ↦
-          let failed : w.clear_to-ended.result ≡ Err Unwritable = sym w.ended-is ∙ (c.in-Err.is ∙ ap Err output) in
-          let files = w.in-Some.files in
-          (files.pools.now, files.programmes.now, files.applications.now, w.in-Some.ensures, rw w.out-is (w.clear_to-ended.ensures.broken_off failed tells))
-      | in-None w ↦ let no : ⊥ = cc (sym w.ended-is ∙ (c.in-Err.is ∙ ap Err output)) in absurd no
-    ]
+returns-in-Err-clause-broken_off g c = λ five tells. c.in-Err.ensures.broken_off (ap Err (only_output c.in-Err.failure (sym c.status.ensures ∙ five))) tells
+
+pub returns-in-Err-clause-refused : goal.returns-in-Err-clause-refused
+returns-in-Err-clause-refused g c = λ tells. rw c.status.ensures
+    (refuses (map (λ w. string_bytes w) c.args.words.now) (g.S.Shelf.tells c.args.shelf.now) (g.S.Shelf.contents c.args.shelf.now) (g.S.Shelf.faults c.args.shelf.now) (g.S.Shelf.faults c.perform.new.shelf) c.in-Err.failure tells c.in-Err.ensures.cause)
+
+pub returns-in-Err-clause-completed : goal.returns-in-Err-clause-completed
+returns-in-Err-clause-completed g c = λ tells. rw c.status.ensures
+    (completes (map (λ w. string_bytes w) c.args.words.now) (g.S.Shelf.tells c.args.shelf.now) (g.S.Shelf.contents c.args.shelf.now) (g.S.Shelf.faults c.args.shelf.now) (g.S.Shelf.faults c.perform.new.shelf) (g.O.Sink.faults c.args.out.now) (g.O.Sink.faults c.perform.new.out)
+    c.in-Err.failure tells c.in-Err.ensures.cause (λ output. (rw output at c.in-Err.ensures.left)))

@@ -1,6 +1,10 @@
 use Rattle.std.proofs.Common.{refl, arith, []}
+use Rattle.std.specs.List.{zip}
 use Rattle.std.proofs.lemmas.List.{length_push}
-use Rattle.sl_run.specs.Tables.{programme_row}
+use Rattle.std.proofs.lemmas.Result.{err_from_is_err_and}
+use Rattle.sl_types.specs.declared.kinds.TheConstants.{MAX_PROGRAMMES}
+use Rattle.sl_run.specs.Tables.{programme_header, programme_row}
+use Rattle.sl_run.proofs.Refused.{rows_known, nothing_said, code_refused, passed_on}
 use Rattle.sl_run.proofs.Rows.{nothing_so_far, rows_more}
 use Rattle.sl_run.proofs.programmes.read_programmes.Goals as goal
 
@@ -15,7 +19,19 @@ loop-row-preserved c =
     let room = c.in_ok-add.ensures.room in
     let each = c.loop-row.invariant.so_far.each in
     record {
-      so_far = rows_more (programme_row c.args.pools.now) c.in-Some.rows.now c.loop-row.row-index _ c.loop-row.table.codes c.add.new.self.codes c.loop-row.table.values.items c.add.new.self.values.items
+      so_far = rows_more (programme_row c.args.pools.now) c.in-Some-rows_of.rows.now c.loop-row.row-index _ c.loop-row.table.codes c.add.new.self.codes c.loop-row.table.values.items c.add.new.self.values.items
           c.in-Some-programme_row.code.now c.in-Some-programme_row.pool c.loop-row-test.true c.loop-row.invariant.so_far c.in-Some-programme_row.ensures c.in_ok-add.ensures.fresh c.in_ok-add.ensures.codes c.in_ok-add.ensures.values;
       few = rw (c.in_ok-add.ensures.values, length_push) (omega (arith, room, each));
     }
+
+pub returns-in_default-programme_row-clause-refused : goal.returns-in_default-programme_row-clause-refused
+returns-in_default-programme_row-clause-refused c = λ was tc tv t.
+    let has = rows_known programme_header c.args.bytes.now c.in-Some.text.now c.in-Ok.lines.items c.deref.result.now c.in-Some-rows_of.rows.now c.in-Some.ensures.0 c.in-Ok.ensures c.deref.ensures.value c.in-Some-rows_of.ensures in
+    nothing_said programme_header (programme_row c.args.pools.now) c.args.bytes.now c.in-Some-rows_of.rows.now c.loop-row.row-index _ t.rows.0 (zip tc tv) c.loop-row-test.true has c.in_default-programme_row.ensures t.rows.1 t.rows.2
+
+pub returns-in_err-add-clause-refused : goal.returns-in_err-add-clause-refused
+returns-in_err-add-clause-refused c = λ was tc tv t.
+    let has = rows_known programme_header c.args.bytes.now c.in-Some.text.now c.in-Ok.lines.items c.deref.result.now c.in-Some-rows_of.rows.now c.in-Some.ensures.0 c.in-Ok.ensures c.deref.ensures.value c.in-Some-rows_of.ensures in
+    let error = err_from_is_err_and c.from_residual.result c.from_residual.ensures.1 in
+    code_refused programme_header (programme_row c.args.pools.now) MAX_PROGRAMMES c.args.bytes.now c.in-Some-rows_of.rows.now c.loop-row.row-index _ c.loop-row.table.codes c.loop-row.table.values.items c.in-Some-programme_row.code.now c.in-Some-programme_row.pool
+    c.loop-row-test.true has c.loop-row.invariant.so_far c.in-Some-programme_row.ensures (c.in_err-add.ensures.not_plain (rw (passed_on c.from_residual.result _ error.0 _ error.1 error.2 was) refl)) tc tv t

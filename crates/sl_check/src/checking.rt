@@ -1,0 +1,66 @@
+ghost use Rattle.std.specs.Prelude.{◌≡◌, ◌<◌, ◌^◌, [], length, slice_index, All, MatchOption, IfOk, Ok};
+ghost use Rattle.sl_laws.specs.Stable.{IsLeastStable};
+ghost use Rattle.sl_proof.specs.Progress.{HasReplayed};
+ghost use Rattle.sl_check.specs.Verdict.{IsFirstUnjust, IsVerdict};
+ghost use Rattle.sl_check.specs.declared.verdict.Verdict.TheVariants.{Yes};
+
+use crate::{Verdict, lowest};
+use sl_proof::Replay;
+use sl_types::{Instance, OutOfMemory, Raise};
+use std::alloc::Global;
+
+// Adds each raise. Tells the number, counted from 1, of the first that doesn't replay.
+fn first_unjust(replay: &mut Replay, raises: &[Raise]) -> Option<u32>
+    requires begun { HasReplayed replay.old [] }
+    requires within { All (λ r. r.pool.0 < length replay.old.instance.pools) raises.now }
+    requires few { length raises.now < 2 ^ 32 }
+    ensures first { MatchOption result (HasReplayed replay.new raises.now) (λ k. IsFirstUnjust replay.old.instance raises.now k) }
+    ensures instance { replay.new.instance ≡ replay.old.instance }
+{
+    for (index, raise) in raises.iter().enumerate() {
+        if replay.add(*raise).is_err() {
+            return Some(index as u32 + 1);
+        }
+    }
+    None
+}
+
+/// The first fault of a published outcome, if it has one. `raises` lead from zeros to limits, which are in
+/// points, in order; `limits` has each pool's limit in points, `admitted` each applicant's index of the
+/// admitted choice or the length of their list, and `counts` how many each pool admits. It takes no memory
+/// but for a limit of each pool.
+pub fn check(
+    alloc: Global,
+    instance: &Instance,
+    raises: &[Raise],
+    limits: &[u32],
+    admitted: &[u32],
+    counts: &[u32],
+) -> Result<Verdict, OutOfMemory>
+    requires within { All (λ r. r.pool.0 < length instance.now.pools) raises.now }
+    requires few { length raises.now < 2 ^ 32 }
+    requires each_limit { length limits.now ≡ length instance.now.pools }
+    requires each_admission { length admitted.now ≡ length instance.now.lists }
+    requires each_count { length counts.now ≡ length instance.now.pools }
+    ensures verdict { IfOk result (λ v. IsVerdict instance.now raises.now limits.now admitted.now counts.now v) }
+    ensures least { result ≡ Ok Yes → IsLeastStable instance.now (slice_index limits.now) }
+{
+    let _pools = instance.pools();
+    let mut replay = Replay::new(alloc, instance)?;
+    if let Some(number) = first_unjust(&mut replay, raises) {
+        return Ok(Verdict::RaiseUnjust(number));
+    }
+    if let Some(pool) = lowest::unsettled(instance, &mut replay) {
+        return Ok(Verdict::Unsettled(pool));
+    }
+    if let Some(pool) = lowest::wrong_limit(instance, replay.limits(), limits) {
+        return Ok(Verdict::LimitWrong(pool));
+    }
+    if let Some(app) = lowest::wrong_admission(instance, limits, admitted) {
+        return Ok(Verdict::AdmissionWrong(app));
+    }
+    if let Some(pool) = lowest::wrong_count(instance, limits, counts) {
+        return Ok(Verdict::CountWrong(pool));
+    }
+    Ok(Verdict::Yes)
+}

@@ -1,0 +1,9 @@
+//! Raises added one by one, each tested as it comes.
+#![tactic(auto)]
+
+mod replay;
+
+pub use replay::{Replay, Unjust};
+
+#[cfg(test)]
+mod tests;

@@ -1,0 +1,71 @@
+use super::*;
+use sl_types::{Entry, Instance, Pool, PoolId, ProgId, Raise, Rule};
+use std::alloc::Global;
+use std::process::Abort;
+use std::test::Fail;
+
+const A: PoolId = PoolId(0);
+
+const B: PoolId = PoolId(1);
+
+fn choice(place: u32, prog: u32, score: u32) -> Entry {
+    Entry {
+        place,
+        prog: ProgId(prog),
+        score,
+    }
+}
+
+// Two pools of one place each; x prefers a, y and z prefer b.
+fn displaced_twice(alloc: Global) -> Result<Instance, Fail> {
+    let pool = Pool {
+        quota: 1,
+        parent: None,
+        rule: Rule::H,
+    };
+    let x = vec![in alloc; choice(1, 0, 10), choice(2, 1, 10)]?;
+    let y = vec![in alloc; choice(1, 1, 9), choice(2, 0, 12)]?;
+    let z = vec![in alloc; choice(1, 1, 11)]?;
+    Ok(Instance::new(
+        alloc,
+        vec![in alloc; pool; 2]?,
+        vec![in alloc; A, B]?,
+        vec![in alloc; x, y, z]?,
+    )?)
+}
+
+// Adds a raise where that is right, and leaves the limits else.
+fn adds(
+    rt: &impl Abort,
+    replay: &mut Replay,
+    pool: PoolId,
+    limit: u32,
+    answer: Result<(), Unjust>,
+    limits: &[u32],
+) {
+    assert!(rt; (pool.0 as usize) < replay.limits().len());
+    assert_eq!(rt; replay.add(Raise { pool, limit }), answer);
+    assert_eq!(rt; replay.limits(), limits);
+}
+
+#[test]
+fn raises_displaced_twice(rt: HostRuntime) -> Result<(), Fail> {
+    let alloc = rt.alloc();
+    let instance = displaced_twice(alloc)?;
+    let mut replay = Replay::new(alloc, &instance)?;
+    for (pool, limit, answer, limits) in [
+        (B, 11, Err(Unjust), [0, 0]),
+        (A, 11, Err(Unjust), [0, 0]),
+        (B, 10, Ok(()), [0, 10]),
+        (B, 10, Err(Unjust), [0, 10]),
+        (A, 11, Ok(()), [11, 10]),
+        (B, 11, Ok(()), [11, 11]),
+    ] {
+        adds(&rt, &mut replay, pool, limit, answer, &limits);
+    }
+    for pool in [A, B] {
+        assert!(rt; (pool.0 as usize) < replay.limits().len());
+        assert!(rt; replay.settled(pool));
+    }
+    Ok(())
+}

@@ -1,0 +1,23 @@
+-- The result of a clearing, as a document holds it.
+use Rattle.std.specs.Prelude.{◌≡◌, ℕ, List, length, slice_index}
+use Rattle.sl_types.specs.declared.kinds.Raise.{Raise}
+use Rattle.sl_types.specs.Market.{Market}
+use Rattle.sl_laws.specs.Outcome.{admitted_indexes, counts_in}
+use Rattle.sl_laws.specs.Stable.{IsLeastStable}
+use Rattle.sl_laws.specs.Raises.{Proves}
+
+-- for each pool its published limit and how many it admits, for each applicant the place in their list of the admitted
+-- choice or the length of the list, and a list of raises
+pub record Document : Type 0 where
+  pub limits : List ℕ
+  pub counts : List ℕ
+  pub admitted : List ℕ
+  pub raises : List Raise
+
+-- the least stable limits, which the raises prove, with the admissions and the counts that they make
+pub record IsResultOf (market : Market) (doc : Document) : Type 0 where
+  pub each : length doc.limits ≡ length market.pools
+  pub least : IsLeastStable market (slice_index doc.limits)
+  pub proved : Proves market doc.raises (slice_index doc.limits)
+  pub admitted : doc.admitted ≡ admitted_indexes market (slice_index doc.limits)
+  pub counts : doc.counts ≡ counts_in market (slice_index doc.limits)
