@@ -25,10 +25,10 @@ fn first_unjust(replay: &mut Replay, raises: &[Raise]) -> Option<u32>
     None
 }
 
-/// The first fault of a published outcome, if it has one. `raises` lead from zeros to limits, which are in
-/// points, in order; `limits` has each pool's limit in points, `admitted` each applicant's index of the
-/// admitted choice or the length of their list, and `counts` how many each pool admits. It takes no memory
-/// but for a limit of each pool.
+/// The verdict on a published outcome: its first fault, or Yes. `raises` are the raises in order, from zeros
+/// on; `limits` has each pool's limit, in points; `admitted` has for each applicant the index of the admitted
+/// choice, or the length of their list; `counts` has how many each pool admits. It takes no memory but for a
+/// limit of each pool. That a list of raises is a certificate of limits is this project's own.
 pub fn check(
     alloc: Global,
     instance: &Instance,

@@ -1,5 +1,5 @@
 -- The first file of a command that isn't accepted.
-use Rattle.std.proofs.Common.{◌≡◌, ◌≤◌, ◌∙◌, ℕ, true, false, List, [], ◌∷◌, length, refl, sym, ap, subst, inl, inr, arith, position, Option, Some, None}
+use Rattle.std.proofs.Common.{◌≡◌, ◌≤◌, ◌∙◌, ℕ, true, false, List, [], ◌∷◌, length, refl, sym, ap, subst, inl, inr, arith, position, Option, Some, None, true≢false}
 use Rattle.std.specs.Prelude.{◌⊎◌, Bool, ◌&&◌, option_map, codes}
 use Rattle.std.specs.List.{zip, list_any}
 use Rattle.std.specs.Str.{bytes_eq}
@@ -15,15 +15,18 @@ use Rattle.sl_types.proofs.Lists.{none_first}
 use Rattle.sl_types.specs.declared.kinds.Rule.TheVariants.{H}
 use Rattle.sl_types.specs.declared.kinds.TheConstants.{MAX_QUOTA}
 use Rattle.sl_run.specs.declared.failure.Part.{Part}
-use Rattle.sl_run.specs.declared.failure.Part.TheVariants.{Pools, Programmes, Applications}
+use Rattle.sl_run.specs.declared.failure.Part.TheVariants.{Pools, Programmes, Applications, Result}
 use Rattle.sl_run.specs.declared.failure.Failure.{Failure}
-use Rattle.sl_run.specs.declared.failure.Failure.TheVariants.{NotPlain, OutOfMemory}
+use Rattle.sl_run.specs.declared.failure.Failure.TheVariants.{Words, NotPlain, TooLong, Unreadable, Unwritable, OutOfMemory}
 use Rattle.sl_run.specs.Fields.{fields_of, is_code}
 use Rattle.sl_run.specs.Tables.{only_if, of_four, number_within, pool_of_fields, pool_row, Say, IsPoolTable, IsProgrammeTable, IsApplicationTable}
-use Rattle.sl_run.specs.Accepted.{NamedMarket, Contents, Holds, HoldsTable, HoldUpTo, AreAcceptedBefore, IsNotPlain}
-use Rattle.sl_run.specs.Causes.{Counts, IsCause}
+use Rattle.sl_run.specs.Words.{Command, clear, check, names_of, HasPart}
+use Rattle.sl_run.specs.Reading.{IsSomeDocument}
+use Rattle.sl_run.specs.NamedMarket.{NamedMarket}
+use Rattle.sl_run.specs.Accepted.{Contents, Holds, HoldsFor, HoldUpTo, HoldTables, AreAcceptedBefore, IsNotPlain}
+use Rattle.sl_run.specs.Causes.{FaultCounts, IsCause}
 use Rattle.sl_run.specs.Fetching.{Reads, KeepsFiles, IsFileCause, IsSomePoolTable, IsSomeProgrammeTable}
-use Rattle.sl_run.specs.Run.{TablesAreOne}
+use Rattle.sl_run.specs.Run.{TablesAreOne, is_of_files}
 use Rattle.sl_run.proofs.Unique.{pool_table_is_one, programme_table_is_one, application_table_is_one}
 
 -- what a file holds once
@@ -32,12 +35,12 @@ same_text contents name a b ea eb = let e : Some a ≡ Some b = sym ea ∙ eb in
 
 module _ (contents : Contents) (names : Part → List ℕ) where
   -- the pools that two instances have in one file
-  same_pools : (n n' : NamedMarket) → HoldsTable contents names n Pools → HoldsTable contents names n' Pools → (n.pool_codes ≡ n'.pool_codes) × (n.market.pools ≡ n'.market.pools)
+  same_pools : (n n' : NamedMarket) → HoldsFor contents names n Pools → HoldsFor contents names n' Pools → (n.pool_codes ≡ n'.pool_codes) × (n.market.pools ≡ n'.market.pools)
   same_pools n n' (text, told, few, table) (text', told', few', table') =
       let e = same_text contents (names Pools) text' text told' told in
       pool_table_is_one text n.pool_codes n'.pool_codes n.market.pools n'.market.pools table (subst (λ (s : List ℕ). IsPoolTable s n'.pool_codes n'.market.pools) e table')
 
-  same_programmes : (n n' : NamedMarket) → n.pool_codes ≡ n'.pool_codes → HoldsTable contents names n Programmes → HoldsTable contents names n' Programmes → (n.prog_codes ≡ n'.prog_codes) × (n.market.progs ≡ n'.market.progs)
+  same_programmes : (n n' : NamedMarket) → n.pool_codes ≡ n'.pool_codes → HoldsFor contents names n Programmes → HoldsFor contents names n' Programmes → (n.prog_codes ≡ n'.prog_codes) × (n.market.progs ≡ n'.market.progs)
   same_programmes n n' codes (text, told, few, table) (text', told', few', table') =
       let e = same_text contents (names Programmes) text' text told' told in
       let here = subst (λ (s : List ℕ). IsProgrammeTable n'.pool_codes s n'.prog_codes n'.market.progs) e table' in
@@ -54,7 +57,7 @@ module _ (contents : Contents) (names : Part → List ℕ) where
   }
 
   -- a file that is no programme table over the pools
-  pub no_programmes : (n : NamedMarket) → HoldsTable contents names n Pools → Holds contents (names Programmes) (λ text. ¬ (IsSomeProgrammeTable n.pool_codes text))
+  pub no_programmes : (n : NamedMarket) → HoldsFor contents names n Pools → Holds contents (names Programmes) (λ text. ¬ (IsSomeProgrammeTable n.pool_codes text))
       → IsNotPlain contents names Programmes
   no_programmes n pools (text, told, few, none) = record {
     before = (n, pools);
@@ -67,7 +70,7 @@ module _ (contents : Contents) (names : Part → List ℕ) where
   }
 
   -- a file that is no application table over the pools and programmes, or is that of an instance that isn't valid
-  pub no_applications : (n : NamedMarket) → HoldsTable contents names n Pools → HoldsTable contents names n Programmes
+  pub no_applications : (n : NamedMarket) → HoldsFor contents names n Pools → HoldsFor contents names n Programmes
       → Holds contents (names Applications) (λ text. (cs : List (List ℕ)) (ls : List (List Entry)) → IsApplicationTable n.prog_codes text cs ls → ¬ (IsValid (record { pools = n.market.pools; progs = n.market.progs; lists = ls })))
       → IsNotPlain contents names Applications
   no_applications n pools programmes (text, told, few, none) = record {
@@ -128,10 +131,10 @@ pub nothing_read : NamedMarket
 nothing_read = named_by (of_lists [] [] []) [] [] []
 
 -- nothing has happened to a shelf
-pub keeps_itself : (tells : Bool) (contents : Contents) (counts : Counts) → KeepsFiles tells tells contents contents counts counts
+pub keeps_itself : (tells : Bool) (contents : Contents) (counts : FaultCounts) → KeepsFiles tells tells contents contents counts counts
 keeps_itself tells contents counts = record { still_tells = refl; same = λ name. refl; never_falls = λ name. omega arith }
 
-pub keeps_on : (tells tells' tells'' : Bool) (contents contents' contents'' : Contents) (before mid after : Counts)
+pub keeps_on : (tells tells' tells'' : Bool) (contents contents' contents'' : Contents) (before mid after : FaultCounts)
     → KeepsFiles tells tells' contents contents' before mid → KeepsFiles tells' tells'' contents' contents'' mid after → KeepsFiles tells tells'' contents contents'' before after
 keeps_on tells tells' tells'' contents contents' contents'' before mid after k l = record {
   still_tells = l.still_tells ∙ k.still_tells;
@@ -139,24 +142,29 @@ keeps_on tells tells' tells'' contents contents' contents'' before mid after k l
   never_falls = λ (name : List ℕ). let p = k.never_falls name in let q = l.never_falls name in omega (arith, p, q);
 }
 
+pub keeps_thrice : (tells tells' tells'' tells''' : Bool) (contents contents' contents'' contents''' : Contents) (before mid late after : FaultCounts)
+    → KeepsFiles tells tells' contents contents' before mid → KeepsFiles tells' tells'' contents' contents'' mid late → KeepsFiles tells'' tells''' contents'' contents''' late after → KeepsFiles tells tells''' contents contents''' before after
+keeps_thrice tells tells' tells'' tells''' contents contents' contents'' contents''' before mid late after k l m =
+    keeps_on tells tells'' tells''' contents contents'' contents''' before late after (keeps_on tells tells' tells'' contents contents' contents'' before mid late k l) m
+
 -- what is told of the file later was told of it before
-pub told_before : (tells tells' : Bool) (contents contents' : Contents) (before mid : Counts) (name : List ℕ) (P : List ℕ → Type 0) → KeepsFiles tells tells' contents contents' before mid
+pub told_before : (tells tells' : Bool) (contents contents' : Contents) (before mid : FaultCounts) (name : List ℕ) (P : List ℕ → Type 0) → KeepsFiles tells tells' contents contents' before mid
     → Reads tells' contents' name P → tells ≡ true → Holds contents name P
 told_before tells tells' contents contents' before mid name P k (text, passes, of) t =
     let told = of (k.still_tells ∙ t) in (text, sym (k.same name) ∙ told.0, told.1, passes)
 
 -- the file of a part that wasn't read is the first that isn't accepted
-pub file_fails : (tells tells' : Bool) (contents contents' : Contents) (names : Part → List ℕ) (before mid after : Counts) (part : Part) (IsTable : List ℕ → Type 0)
-    → KeepsFiles tells tells' contents contents' before mid → (tells ≡ true → AreAcceptedBefore contents names part)
-    → (tells ≡ true → Holds contents (names part) (λ text. ¬ (IsTable text)) → IsNotPlain contents names part) → (failure : Failure)
-    → IsFileCause part tells' contents' (names part) (mid (names part)) (after (names part)) IsTable failure → IsCause tells contents names before after failure
-file_fails tells tells' contents contents' names before mid after part IsTable k earlier refuted failure (inl (inl (e, rose))) =
-    rw e (rose_from (before (names part)) (mid (names part)) (after (names part)) (k.never_falls (names part)) rose, earlier)
-file_fails tells tells' contents contents' names before mid after part IsTable k earlier refuted failure (inl (inr (inl (e, long)))) =
-    rw e (λ t. let much = long (k.still_tells ∙ t) in record { before = earlier t; told = (much.0, sym (k.same (names part)) ∙ much.1, much.2) })
-file_fails tells tells' contents contents' names before mid after part IsTable k earlier refuted failure (inl (inr (inr e))) = rw e tt
-file_fails tells tells' contents contents' names before mid after part IsTable k earlier refuted failure (inr (e, reads)) =
-    rw e (λ t. refuted t (told_before tells tells' contents contents' before mid (names part) (λ text. ¬ (IsTable text)) k reads t))
+pub file_fails : (tells tells' : Bool) (contents contents' : Contents) (command : Command) (before mid after : FaultCounts) (part : Part) (IsTable : List ℕ → Type 0)
+    → KeepsFiles tells tells' contents contents' before mid → HasPart command part → (tells ≡ true → AreAcceptedBefore contents (names_of command) part)
+    → (tells ≡ true → Holds contents (names_of command part) (λ text. ¬ (IsTable text)) → IsNotPlain contents (names_of command) part) → (failure : Failure)
+    → IsFileCause part tells' contents' (names_of command part) (mid (names_of command part)) (after (names_of command part)) IsTable failure → IsCause tells contents command before after failure
+file_fails tells tells' contents contents' command before mid after part IsTable k has earlier refuted failure (inl (inl (e, rose))) =
+    let name = names_of command part in rw e (has, rose_from (before name) (mid name) (after name) (k.never_falls name) rose, earlier)
+file_fails tells tells' contents contents' command before mid after part IsTable k has earlier refuted failure (inl (inr (inl (e, long)))) =
+    rw e (has, λ t. let much = long (k.still_tells ∙ t) in record { before = earlier t; told = (much.0, sym (k.same (names_of command part)) ∙ much.1, much.2) })
+file_fails tells tells' contents contents' command before mid after part IsTable k has earlier refuted failure (inl (inr (inr e))) = rw e tt
+file_fails tells tells' contents contents' command before mid after part IsTable k has earlier refuted failure (inr (e, reads)) =
+    rw e (has, λ t. refuted t (told_before tells tells' contents contents' before mid (names_of command part) (λ text. ¬ (IsTable text)) k reads t))
 
 -- a pool that a row says stands alone
 tree_of : Option (List ℕ × Pool) → Bool
@@ -194,7 +202,7 @@ pub table_alone : (text : List ℕ) (cs : List (List ℕ)) (ps : List Pool) → 
 table_alone text cs ps table = none_first is_in_tree ps (rows_alone table.rows.0 cs ps table.each table.rows.2)
 
 -- an application table with which the instance isn't valid
-pub invalid_applications : (contents : Contents) (names : Part → List ℕ) (n : NamedMarket) → HoldsTable contents names n Pools → HoldsTable contents names n Programmes
+pub invalid_applications : (contents : Contents) (names : Part → List ℕ) (n : NamedMarket) → HoldsFor contents names n Pools → HoldsFor contents names n Programmes
     → Holds contents (names Applications) (λ text. IsApplicationTable n.prog_codes text n.app_codes n.market.lists) → ¬ (IsValid n.market) → IsNotPlain contents names Applications
 invalid_applications contents names n pools programmes (text, told, few, table) invalid =
     no_applications contents names n pools programmes (
@@ -207,8 +215,46 @@ invalid_applications contents names n pools programmes (text, told, few, table) 
     )
 
 -- three tables that made no instance
-pub made_cause : (tells : Bool) (contents : Contents) (names : Part → List ℕ) (before after : Counts) (n : NamedMarket) → (tells ≡ true → HoldsTable contents names n Pools) → (tells ≡ true → HoldsTable contents names n Programmes)
-    → (tells ≡ true → Holds contents (names Applications) (λ text. IsApplicationTable n.prog_codes text n.app_codes n.market.lists)) → (failure : Failure)
-    → ((failure ≡ NotPlain Applications) × ¬ (IsValid n.market)) ⊎ (failure ≡ OutOfMemory) → IsCause tells contents names before after failure
-made_cause tells contents names before after n pools programmes applications failure (inl (e, invalid)) = rw e (λ t. invalid_applications contents names n (pools t) (programmes t) (applications t) invalid)
-made_cause tells contents names before after n pools programmes applications failure (inr e) = rw e tt
+pub made_cause : (tells : Bool) (contents : Contents) (p g a : List ℕ) (before after : FaultCounts) (n : NamedMarket) → let names = names_of (clear p g a) in (tells ≡ true → HoldsFor contents names n Pools)
+    → (tells ≡ true → HoldsFor contents names n Programmes) → (tells ≡ true → Holds contents (names Applications) (λ text. IsApplicationTable n.prog_codes text n.app_codes n.market.lists)) → (failure : Failure)
+    → ((failure ≡ NotPlain Applications) × ¬ (IsValid n.market)) ⊎ (failure ≡ OutOfMemory) → IsCause tells contents (clear p g a) before after failure
+made_cause tells contents p g a before after n pools programmes applications failure (inl (e, invalid)) =
+    rw e (tt, λ t. invalid_applications contents (names_of (clear p g a)) n (pools t) (programmes t) (applications t) invalid)
+made_cause tells contents p g a before after n pools programmes applications failure (inr e) = rw e tt
+
+-- a document that is read after three tables, and isn't one
+pub no_document : (contents : Contents) (names : Part → List ℕ) (n : NamedMarket) → HoldTables contents names n → Holds contents (names Result) (λ text. ¬ (IsSomeDocument n text)) → IsNotPlain contents names Result
+no_document contents names n held (text, told, few, none) = record {
+  before = (n, (held.0.0, held.0.1, held.1));
+  told = (text, told, few, tt);
+  none = λ (n' : NamedMarket) (up : HoldUpTo contents names n' Result).
+      let e = same_text contents (names Result) up.1.0 text up.1.1 told in
+      let same = tables_are_one contents names n' n ((up.0.0, up.0.1), up.0.2) held in
+      none (subst (λ (m : NamedMarket). IsSomeDocument m text) same (subst (λ (s : List ℕ). IsSomeDocument n' s) e up.1.3));
+}
+
+-- a check reads the tables as a clearing does
+pub same_tables : (tells : Bool) (contents : Contents) (p g a d : List ℕ) (before after : FaultCounts) (failure : Failure) → is_of_files failure ≡ true → IsCause tells contents (clear p g a) before after failure
+    → IsCause tells contents (check p g a d) before after failure
+same_tables tells contents p g a d before after Words late cause = cause
+same_tables tells contents p g a d before after (NotPlain Pools) late cause = (tt, λ t. let c = cause.1 t in record { before = c.before; told = c.told; none = c.none })
+same_tables tells contents p g a d before after (NotPlain Programmes) late cause = (tt, λ t. let c = cause.1 t in record { before = c.before; told = c.told; none = c.none })
+same_tables tells contents p g a d before after (NotPlain Applications) late cause = (tt, λ t. let c = cause.1 t in record { before = c.before; told = c.told; none = c.none })
+same_tables tells contents p g a d before after (NotPlain Result) late cause = absurd cause.0
+same_tables tells contents p g a d before after (TooLong Pools) late cause = (tt, λ t. let c = cause.1 t in record { before = c.before; told = c.told })
+same_tables tells contents p g a d before after (TooLong Programmes) late cause = (tt, λ t. let c = cause.1 t in record { before = c.before; told = c.told })
+same_tables tells contents p g a d before after (TooLong Applications) late cause = (tt, λ t. let c = cause.1 t in record { before = c.before; told = c.told })
+same_tables tells contents p g a d before after (TooLong Result) late cause = absurd cause.0
+same_tables tells contents p g a d before after (Unreadable Pools) late cause = (tt, cause.1, cause.2)
+same_tables tells contents p g a d before after (Unreadable Programmes) late cause = (tt, cause.1, cause.2)
+same_tables tells contents p g a d before after (Unreadable Applications) late cause = (tt, cause.1, cause.2)
+same_tables tells contents p g a d before after (Unreadable Result) late cause = absurd cause.0
+same_tables tells contents p g a d before after Unwritable late cause = absurd (true≢false (sym late))
+same_tables tells contents p g a d before after OutOfMemory late cause = tt
+
+-- a file that wasn't read is the cause of a failure of files
+pub file_late : (part : Part) (tells : Bool) (contents : Contents) (name : List ℕ) (before after : ℕ) (IsTable : List ℕ → Type 0) (failure : Failure) → IsFileCause part tells contents name before after IsTable failure → is_of_files failure ≡ true
+file_late part tells contents name before after IsTable failure (inl (inl (e, rose))) = rw e refl
+file_late part tells contents name before after IsTable failure (inl (inr (inl (e, long)))) = rw e refl
+file_late part tells contents name before after IsTable failure (inl (inr (inr e))) = rw e refl
+file_late part tells contents name before after IsTable failure (inr (e, reads)) = rw e refl

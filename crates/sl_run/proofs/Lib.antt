@@ -9,3 +9,10 @@ pub mod Writing
 pub mod Unique
 pub mod Accepting
 pub mod Ending
+pub mod Filtered
+pub mod Printed
+pub mod PlainRecords
+pub mod Placed
+pub mod Recovered
+pub mod Ranges
+pub mod TableCodes

@@ -1,11 +1,13 @@
 -- Admissions, counts and the records of a result one by one.
-use Rattle.std.proofs.Common.{◌≡◌, ◌<◌, ◌≤◌, ◌+◌, ◌∙◌, ℕ, zero, suc, List, [], ◌∷◌, ◌++◌, length, map, take, get_or, refl, append_assoc, append-nil, length-append, sym, ap, arith, zero-add}
-use Rattle.std.specs.Prelude.{flat_map, All}
+use Rattle.std.proofs.Common.{◌≡◌, ◌<◌, ◌≤◌, ◌+◌, ◌^◌, ◌∙◌, ℕ, zero, suc, List, [], ◌∷◌, ◌++◌, length, map, take, get_or, refl, append_assoc, append-nil, length-append, sym, ap, arith, zero-add}
+use Rattle.std.specs.Prelude.{flat_map, sum_by, All}
 use Rattle.std.specs.List.{range_with_len, position_or_len}
 use Rattle.std.proofs.lemmas.List.{flat_map_more, map-append, take_more, length-map}
-use Rattle.std.proofs.lemmas.List.Sums.{prefix_len-le-length}
+use Rattle.std.proofs.lemmas.List.Sums.{prefix_len-le-length, sum_by-cons}
 use Rattle.std.proofs.lemmas.List.FromFn.{map-range_with_len_more, length-map-range_with_len, fill_by_all}
 use Rattle.std.proofs.lemmas.Grind.{flat_map-append}
+use Rattle.std.proofs.lemmas.List.Concat.{length-flat_map}
+use Rattle.sl_io.specs.declared.shelf.TheConstants.{LONGEST_FILE}
 use Rattle.sl_types.specs.declared.kinds.Entry.{Entry}
 use Rattle.sl_types.specs.declared.kinds.Raise.{Raise}
 use Rattle.sl_types.specs.Market.{Market, list_of, pool_numbers}
@@ -14,9 +16,10 @@ use Rattle.sl_laws.specs.Limits.{Limits, is_eligible, demand, count_in}
 use Rattle.sl_laws.specs.Outcome.{admitted_indexes, counts_in}
 use Rattle.sl_laws.specs.Raises.{after_raise, EachRaise}
 use Rattle.sl_laws.proofs.Slices.{own_number}
-use Rattle.sl_run.specs.Accepted.{NamedMarket}
+use Rattle.sl_run.specs.NamedMarket.{NamedMarket}
 use Rattle.sl_run.specs.Document.{Document}
-use Rattle.sl_run.specs.ResultText.{ResultRecord, text_of_record, version_record, rule_record, limit_record, admit_record, raise_record, end_record, result_text}
+use Rattle.sl_run.specs.ResultText.{ResultRecord, text_of_record, version_record, rule_record, limit_record, admit_record, raise_record, end_record, body_records, result_records, result_text}
+use Rattle.sl_run.specs.Reading.{IsPrinted}
 
 -- the demand at the limit itself is the count
 pub own_count : (market : Market) (t : Limits) (P : ℕ) → demand market t P (t P) ≡ count_in market t P
@@ -83,3 +86,31 @@ raises_within market F t (r ∷ rs) h (suc k) d lt = raises_within market F (aft
 -- one count for each pool
 pub counts_each : (market : Market) (t : Limits) (counts : List ℕ) → counts ≡ counts_in market t → length counts ≡ length market.pools
 counts_each market t counts e = ap length e ∙ length-map-range_with_len (count_in market t) 0 (length market.pools)
+
+at_least_one : {A : Type 0} (f : A → ℕ) (xs : List A) → ((x : A) → 1 ≤ f x) → length xs ≤ sum_by f xs
+at_least_one f [] h = omega arith
+at_least_one f (x ∷ xs) h =
+    let here : 1 ≤ f x = h x in
+    let rest : length xs ≤ sum_by f xs = at_least_one f xs h in
+    let sum = sum_by-cons f x xs in
+    omega (arith, here, rest, sum)
+
+record_length : (r : ResultRecord) → 1 ≤ length (text_of_record r)
+record_length r = simp length-append (omega arith)
+
+raises_last : (ls as' rs : List ResultRecord) (e : ResultRecord) → length rs ≤ length ((version_record ∷ rule_record ∷ (ls ++ as' ++ rs)) ++ e ∷ [])
+raises_last ls as' rs e = simp length-append (omega arith)
+
+-- a document that was fetched has fewer raises than bytes
+pub few_raises : (n : NamedMarket) (text : List ℕ) (doc : Document) → IsPrinted n text doc → length text ≤ LONGEST_FILE → length doc.raises < 2 ^ 32
+few_raises n text doc printed few =
+    let ls = map (limit_record n doc.limits doc.counts) (pool_numbers n.market) in
+    let as' = map (admit_record n doc.admitted) (applicant_numbers n.market) in
+    let rs = map (raise_record n) doc.raises in
+    let records = result_records n doc in
+    let same = ap length printed.printed in
+    let sizes = length-flat_map text_of_record records in
+    let each = at_least_one (λ (r : ResultRecord). length (text_of_record r)) records record_length in
+    let last = raises_last ls as' rs (end_record (length (body_records n doc))) in
+    let count = length-map doc.raises (raise_record n) in
+    omega (arith, few, same, sizes, each, last, count)

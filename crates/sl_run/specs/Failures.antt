@@ -1,7 +1,7 @@
 -- The status and the line of each way in which a command ends without its result.
 use Rattle.std.specs.Prelude.{ℕ, List, ◌++◌, codes}
 use Rattle.sl_run.specs.declared.failure.Part.{Part}
-use Rattle.sl_run.specs.declared.failure.Part.TheVariants.{Pools, Programmes, Applications}
+use Rattle.sl_run.specs.declared.failure.Part.TheVariants.{Pools, Programmes, Applications, Result}
 use Rattle.sl_run.specs.declared.failure.Failure.{Failure}
 use Rattle.sl_run.specs.declared.failure.Failure.TheVariants.{Words, NotPlain, TooLong, Unreadable, Unwritable, OutOfMemory}
 
@@ -17,6 +17,7 @@ abbrev pub word_of : Part → List ℕ
 word_of Pools = codes "pools"
 word_of Programmes = codes "programmes"
 word_of Applications = codes "applications"
+word_of Result = codes "result"
 
 abbrev pub line_of : Failure → List ℕ
 line_of Words = codes "scorelimits: the words are not a command form\n"

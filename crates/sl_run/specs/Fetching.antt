@@ -10,7 +10,7 @@ use Rattle.sl_run.specs.declared.failure.Failure.{Failure}
 use Rattle.sl_run.specs.declared.failure.Failure.TheVariants.{NotPlain, TooLong, Unreadable, OutOfMemory}
 use Rattle.sl_run.specs.Tables.{IsPoolTable, IsProgrammeTable, IsApplicationTable}
 use Rattle.sl_run.specs.Accepted.{Contents, HoldsTooMuch}
-use Rattle.sl_run.specs.Causes.{Counts}
+use Rattle.sl_run.specs.Causes.{FaultCounts}
 
 -- where the contents are told, the file of this name has this text
 abbrev pub IsTextOf : Bool → Contents → List ℕ → List ℕ → Type 0
@@ -21,7 +21,7 @@ abbrev pub Reads : Bool → Contents → List ℕ → (List ℕ → Type 0) → 
 Reads tells contents name P = (text : List ℕ) × P text × IsTextOf tells contents name text
 
 -- a shelf has the same files as before, and no count of faults has fallen
-pub record KeepsFiles (tells tells' : Bool) (contents contents' : Contents) (before after : Counts) : Type 0 where
+pub record KeepsFiles (tells tells' : Bool) (contents contents' : Contents) (before after : FaultCounts) : Type 0 where
   pub still_tells : tells' ≡ tells
   pub same : (name : List ℕ) → contents' name ≡ contents name
   pub never_falls : (name : List ℕ) → before name ≤ after name

@@ -1,6 +1,7 @@
 -- Lines, fields, codes and numbers of the plain form.
-use Rattle.std.specs.Prelude.{◌≡◌, ℕ, Bool, ◌&&◌, ◌||◌, ◌==◌, List, [], ◌∷◌, ◌++◌, length, nat_le, cond, Option, Some, None}
-use Rattle.std.specs.List.{slice_split, list_all}
+use Rattle.std.specs.Prelude.{◌≡◌, ℕ, Bool, true, ◌&&◌, ◌||◌, ◌==◌, List, [], ◌∷◌, ◌++◌, length, nat_le, cond, All, Option, Some, None}
+use Rattle.std.specs.List.{slice_split, list_all, IsDistinct}
+use Rattle.std.specs.Str.{bytes_eq}
 use Rattle.std.specs.Char.{is_ascii_alphanumeric, is_ascii_digit}
 use Rattle.std.specs.Str.Parse.{digits_value}
 
@@ -22,6 +23,11 @@ is_code_byte b = is_ascii_alphanumeric b || b == 45 || b == 95
 -- 1 to 64 of these
 abbrev pub is_code : List ℕ → Bool
 is_code field = nat_le 1 (length field) && nat_le (length field) 64 && list_all is_code_byte field
+
+-- each is a code, and no code stands twice
+pub record AreCodes (table_codes : List (List ℕ)) : Type 0 where
+  pub each : All (λ code. is_code code ≡ true) table_codes
+  pub once : IsDistinct bytes_eq table_codes
 
 -- 1 to 9 digits
 abbrev pub is_number : List ℕ → Bool

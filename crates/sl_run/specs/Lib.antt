@@ -2,9 +2,13 @@ pub mod Fields
 pub mod Tables
 pub mod Clearing
 pub mod Words
-pub mod Accepted
+pub mod NamedMarket
 pub mod Document
 pub mod ResultText
+pub mod Reading
+pub mod ResultLines
+pub mod VerdictText
+pub mod Accepted
 pub mod Failures
 pub mod Causes
 pub mod Fetching

@@ -5,7 +5,7 @@ use Rattle.sl_types.specs.declared.kinds.Entry.{Entry}
 use Rattle.sl_types.specs.declared.kinds.Raise.{Raise}
 use Rattle.sl_types.specs.Market.{list_of, pool_numbers}
 use Rattle.sl_types.specs.Valid.{applicant_numbers}
-use Rattle.sl_run.specs.Accepted.{NamedMarket}
+use Rattle.sl_run.specs.NamedMarket.{NamedMarket}
 use Rattle.sl_run.specs.Document.{Document}
 
 -- a record of four fields

@@ -92,7 +92,8 @@ abbrev pub have_choices : List (List Entry) → Bool
 have_choices lists = list_all (λ l. nat_le 1 (length l)) lists
 
 -- the rows of an application table in the plain form over these programmes, with these codes and lists: each applicant has
--- a row, and the rows of one applicant stand together. The places, and how many rows there may be, are a matter of the instance
+-- a row, and the rows of one applicant stand together. Rising places, the length of a list, a programme twice, and how many
+-- rows there may be, are a matter of the instance
 pub record IsApplicationTable (prog_codes : List (List ℕ)) (text : List ℕ) (app_codes : List (List ℕ)) (lists : List (List Entry)) : Type 0 where
   pub ascii : IsAscii text
   pub rows : (lines : List (List ℕ)) × HasRows application_header text lines × Say (choice_row prog_codes) lines (choices_in_turn app_codes lists)

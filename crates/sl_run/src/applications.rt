@@ -62,7 +62,8 @@ fn add_choice(
 }
 
 /// Reads the rows of an application table over the codes of the programmes, where it is in the plain form. The
-/// rows of one applicant stand together; whether their places rise is left to the instance.
+/// rows of one applicant stand together. Whether their places rise, how many they are, whether a programme
+/// stands twice, and how many rows there are, is left to the instance.
 pub fn read_applications(
     alloc: Global,
     bytes: &[u8],

@@ -9,9 +9,9 @@ use itoa::Buffer;
 use sl_types::{AppId, PoolId, Raise};
 use std::alloc::{AllocError, Global};
 
-// Adds a record of four fields.
+/// Adds a record of four fields.
 #[tactic(auto, using(std::proofs::Common::append_assoc))]
-fn add_record(
+pub fn add_record(
     text: &mut String,
     first: &str,
     second: &str,
@@ -134,8 +134,8 @@ fn add_raises(text: &mut String, named: &Named, raises: &[Raise]) -> Result<(), 
     Ok(())
 }
 
-/// The text of a result document: a record for each pool and each applicant in file order, then the raises,
-/// and a last one with the number of records before it.
+/// The text of a result document: the version and the rule, a record for each pool and each applicant in
+/// file order, then the raises, and a last one with the number of records before it.
 pub fn result_text(alloc: Global, named: &Named, doc: &Doc) -> Result<String, AllocError>
     requires limits { length doc.now.limits ≡ length named.now.market.pools }
     requires counts { length doc.now.counts ≡ length named.now.market.pools }

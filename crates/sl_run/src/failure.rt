@@ -10,6 +10,8 @@ pub enum Part {
     Pools,
     Programmes,
     Applications,
+    /// The result document.
+    Result,
 }
 
 /// Why a command ended without its result.
@@ -52,12 +54,15 @@ impl Failure {
             Failure::NotPlain(Part::Pools) => "pools: not in the plain form\n",
             Failure::NotPlain(Part::Programmes) => "programmes: not in the plain form\n",
             Failure::NotPlain(Part::Applications) => "applications: not in the plain form\n",
+            Failure::NotPlain(Part::Result) => "result: not in the plain form\n",
             Failure::TooLong(Part::Pools) => "pools: longer than 268435456 bytes\n",
             Failure::TooLong(Part::Programmes) => "programmes: longer than 268435456 bytes\n",
             Failure::TooLong(Part::Applications) => "applications: longer than 268435456 bytes\n",
+            Failure::TooLong(Part::Result) => "result: longer than 268435456 bytes\n",
             Failure::Unreadable(Part::Pools) => "pools: cannot be read\n",
             Failure::Unreadable(Part::Programmes) => "programmes: cannot be read\n",
             Failure::Unreadable(Part::Applications) => "applications: cannot be read\n",
+            Failure::Unreadable(Part::Result) => "result: cannot be read\n",
             Failure::Unwritable => "output: cannot be written\n",
             Failure::OutOfMemory => "out of memory\n",
         }

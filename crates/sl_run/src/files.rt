@@ -1,10 +1,11 @@
-ghost use Rattle.std.specs.Prelude.{◌≡◌, ◌⊎◌, ◌<◌, ◌^◌, true, None, length, map, position, IfOk, IfErr};
+ghost use Rattle.std.specs.Prelude.{◌≡◌, ◌⊎◌, ◌≤◌, ◌<◌, ◌^◌, true, None, length, map, position, IfOk, IfErr};
 ghost use Rattle.sl_types.specs.Market.{market_of};
 ghost use Rattle.sl_types.specs.Valid.{IsValid};
 ghost use Rattle.sl_types.specs.Stage.{is_in_tree};
+ghost use Rattle.sl_run.specs.Fields.{AreCodes};
 ghost use Rattle.sl_run.specs.Tables.{IsPoolTable, IsProgrammeTable, IsApplicationTable};
-ghost use Rattle.sl_run.specs.Words.{table_names};
-ghost use Rattle.sl_run.specs.Accepted.{HoldAll};
+ghost use Rattle.sl_run.specs.Words.{clear, names_of};
+ghost use Rattle.sl_run.specs.Accepted.{HoldTables};
 ghost use Rattle.sl_run.specs.Causes.{IsCause};
 ghost use Rattle.sl_run.specs.Fetching.{IsTextOf, Reads, KeepsFiles, IsFetchCause, IsFileCause, IsSomePoolTable, IsSomeProgrammeTable, IsSomeApplicationTable};
 ghost use Rattle.sl_run.specs.Run.{is_of_files};
@@ -18,13 +19,19 @@ use crate::pools::read_pools;
 use crate::programmes::read_programmes;
 use crate::words::Files;
 use sl_codes::Codes;
-use sl_io::{FetchError, Shelf};
+use sl_io::{FetchError, LONGEST_FILE, Shelf};
 use sl_types::{Entry, Instance, InstanceError, Pool, PoolId};
 use std::alloc::Global;
 
-// The bytes of the file of a part.
-fn fetch<S: Shelf>(alloc: Global, shelf: &mut S, part: Part, name: &str) -> Result<Vec<u8>, Failure>
+/// The bytes of the file of a part.
+pub fn fetch<S: Shelf>(
+    alloc: Global,
+    shelf: &mut S,
+    part: Part,
+    name: &str,
+) -> Result<Vec<u8>, Failure>
     ensures told { IfOk result (λ v. IsTextOf (S.tells shelf.old) (S.contents shelf.old) name.now v.items) }
+    ensures short { IfOk result (λ v. length v.items ≤ LONGEST_FILE) }
     ensures keeps { KeepsFiles (S.tells shelf.old) (S.tells shelf.new) (S.contents shelf.old) (S.contents shelf.new) (S.faults shelf.old) (S.faults shelf.new) }
     ensures cause { IfErr result (IsFetchCause part (S.tells shelf.old) (S.contents shelf.old) name.now (S.faults shelf.old name.now) (S.faults shelf.new name.now)) }
 {
@@ -37,8 +44,8 @@ fn fetch<S: Shelf>(alloc: Global, shelf: &mut S, part: Part, name: &str) -> Resu
     }
 }
 
-// What a reader's refusal of the file of a part means for the command.
-fn refusal(part: Part, error: ReadError) -> Failure
+/// What a reader's refusal of the file of a part means for the command.
+pub fn refusal(part: Part, error: ReadError) -> Failure
     ensures { ((error ≡ ReadError.NotPlain) × (result ≡ Failure.NotPlain part)) ⊎ (result ≡ Failure.OutOfMemory) }
 {
     match error {
@@ -107,6 +114,9 @@ fn assemble(
     requires each_pool { length pools.codes ≡ length pools.values.items }
     requires each_programme { length programmes.codes ≡ length programmes.values.items }
     requires each_applicant { length applications.codes ≡ length applications.values.items }
+    requires plain_pools { AreCodes pools.codes }
+    requires plain_programmes { AreCodes programmes.codes }
+    requires plain_applicants { AreCodes applications.codes }
     ensures made { IfOk result (λ n. n ≡ record { market = market_of pools.values programmes.values applications.values; pool_codes = pools.codes; prog_codes = programmes.codes; app_codes = applications.codes }) }
     ensures valid { IfOk result (λ n. IsValid n.market) }
     ensures refused { IfErr result (λ failure. ((failure ≡ Failure.NotPlain Part.Applications) × ¬ (IsValid (market_of pools.values programmes.values applications.values))) ⊎ (failure ≡ Failure.OutOfMemory)) }
@@ -124,9 +134,10 @@ pub fn read_files<S: Shelf>(
     files: Files<'_>,
     shelf: &mut S,
 ) -> Result<Named, Failure>
-    ensures held { IfOk result (λ n. S.tells shelf.old ≡ true → HoldAll (S.contents shelf.old) (table_names files.entry.pools.now files.entry.programmes.now files.entry.applications.now) n) }
-    ensures cause { IfErr result (IsCause (S.tells shelf.old) (S.contents shelf.old) (table_names files.entry.pools.now files.entry.programmes.now files.entry.applications.now) (S.faults shelf.old) (S.faults shelf.new)) }
+    ensures held { IfOk result (λ n. S.tells shelf.old ≡ true → HoldTables (S.contents shelf.old) (names_of (clear files.entry.pools.now files.entry.programmes.now files.entry.applications.now)) n) }
+    ensures cause { IfErr result (IsCause (S.tells shelf.old) (S.contents shelf.old) (clear files.entry.pools.now files.entry.programmes.now files.entry.applications.now) (S.faults shelf.old) (S.faults shelf.new)) }
     ensures late { IfErr result (λ failure. is_of_files failure ≡ true) }
+    ensures keeps { KeepsFiles (S.tells shelf.old) (S.tells shelf.new) (S.contents shelf.old) (S.contents shelf.new) (S.faults shelf.old) (S.faults shelf.new) }
 {
     let pools = fetch_pools(alloc, shelf, files.pools)?;
     let programmes = fetch_programmes(alloc, shelf, files.programmes, &pools.codes)?;

@@ -9,15 +9,17 @@ mod document;
 mod failure;
 mod fields;
 mod files;
+mod judging;
 mod named;
 mod outcome;
 mod pools;
 mod programmes;
+mod reading;
 mod theorems;
 mod words;
 
 pub use command::run;
-pub use theorems::tables_are_one;
+pub use theorems::{documents_are_one, tables_are_one};
 
 #[cfg(test)]
 mod tests;

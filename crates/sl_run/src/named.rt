@@ -1,4 +1,6 @@
 ghost use Rattle.std.specs.Prelude.{◌≡◌, length};
+ghost use Rattle.sl_run.specs.NamedMarket.{IsNamed};
+ghost use Rattle.sl_run.specs.Fields.{AreCodes};
 
 use sl_codes::Codes;
 use sl_types::Instance;
@@ -14,22 +16,24 @@ pub struct Named {
 }
 
 impl Model for Named {
-    ghost use Rattle.std.specs.Prelude.{◌≡◌, length};
-    ghost use Rattle.sl_run.specs.Accepted.{NamedMarket};
+    ghost use Rattle.sl_run.specs.NamedMarket.{NamedMarket, IsNamed};
 
     ghost Value = { NamedMarket };
 
     ghost view = { λ s. record { market = s.instance; pool_codes = s.pool_codes; prog_codes = s.prog_codes; app_codes = s.app_codes } };
 
-    ghost invariant = { λ s. (length s.pool_codes ≡ length s.instance.pools) × (length s.prog_codes ≡ length s.instance.progs) × (length s.app_codes ≡ length s.instance.lists) };
+    ghost invariant = { λ s. IsNamed (record { market = s.instance; pool_codes = s.pool_codes; prog_codes = s.prog_codes; app_codes = s.app_codes }) };
 }
 
 impl Named {
-    /// The instance with these codes, one for each pool, programme and applicant.
+    /// The instance with these codes, one for each pool, programme and applicant, none twice.
     pub fn new(instance: Instance, pool_codes: Codes, prog_codes: Codes, app_codes: Codes) -> Named
         requires each_pool { length pool_codes ≡ length instance.pools }
         requires each_programme { length prog_codes ≡ length instance.progs }
         requires each_applicant { length app_codes ≡ length instance.lists }
+        requires plain_pools { AreCodes pool_codes }
+        requires plain_programmes { AreCodes prog_codes }
+        requires plain_applicants { AreCodes app_codes }
         ensures { result ≡ record { market = instance; pool_codes = pool_codes; prog_codes = prog_codes; app_codes = app_codes } }
     {
         Named {
@@ -40,8 +44,10 @@ impl Named {
         }
     }
 
+    /// The instance.
     pub fn instance(&self) -> &Instance
-        ensures { result.now ≡ self.now.market }
+        ensures market { result.now ≡ self.now.market }
+        ensures named { IsNamed self.now }
     {
         &self.instance
     }

@@ -11,9 +11,9 @@ use sl_types::{AppId, Instance, OutOfMemory, PoolId, Raise};
 use std::alloc::{AllocError, Global};
 use std::marker::Model;
 
-/// A result: the published limit of each pool, in points, and how many applicants it admits; for each
-/// applicant the index in their list of the admitted choice, or the length of the list; and raises that prove
-/// the limits, in order.
+/// What a result document holds: the published limit of each pool, in points, and how many applicants it
+/// admits; for each applicant the index in their list of the admitted choice, or the length of the list; and
+/// the raises that are to prove the limits, in order.
 #[derive(Drop)]
 pub struct Doc {
     pub limits: Vec<u32>,

@@ -164,6 +164,14 @@ fn worked_examples(rt: HostRuntime) -> Result<(), Fail> {
         },
     ] {
         expect(&rt, &case, 1000)?;
+        let inputs = Inputs {
+            pools: case.pools,
+            programmes: case.programmes,
+            applications: case.applications,
+            document: case.out,
+            fails: &[],
+        };
+        expect_checked(&rt, inputs, 1000, RIGHT)?;
     }
     Ok(())
 }
@@ -523,6 +531,188 @@ fn narrow_sinks(rt: HostRuntime) -> Result<(), Fail> {
     expect(&rt, &case, 126)
 }
 
+const CHECK: [&str; 6] = [
+    "check",
+    "H",
+    "pools",
+    "programmes",
+    "applications",
+    "result",
+];
+
+// What a check reads.
+#[derive(Clone, Copy)]
+struct Inputs<'a> {
+    pools: &'a str,
+    programmes: &'a str,
+    applications: &'a str,
+    document: &'a str,
+    fails: &'a [u64],
+}
+
+// A document over the tables of "displaced twice".
+fn displaced(document: &str) -> Inputs<'_> {
+    Inputs {
+        pools: TWO_POOLS,
+        programmes: TWO_PROGRAMMES,
+        applications: DISPLACED,
+        document,
+        fails: &[],
+    }
+}
+
+fn shelf_with(alloc: Global, inputs: Inputs<'_>) -> Result<MemShelf, AllocError> {
+    let mut files = Vec::new(alloc);
+    for (name, text) in [
+        ("pools", inputs.pools),
+        ("programmes", inputs.programmes),
+        ("applications", inputs.applications),
+        ("result", inputs.document),
+    ] {
+        let name = String::from_str(alloc, name)?;
+        files.push((name, Vec::from_slice(alloc, text.as_bytes())?))?;
+    }
+    Ok(MemShelf::new(files, inputs.fails.to_vec(alloc)?))
+}
+
+// What a check of a document is to end with.
+#[derive(Clone, Copy)]
+struct Checked<'a> {
+    status: u8,
+    out: &'a str,
+    err: &'a str,
+}
+
+// Checks a document, into a sink with this much room.
+fn expect_checked<R: Abort + AllocGlobal>(
+    rt: &R,
+    inputs: Inputs<'_>,
+    room: usize,
+    wanted: Checked<'_>,
+) -> Result<(), Fail> {
+    let words = words_of(rt.alloc(), &CHECK)?;
+    let mut shelf = shelf_with(rt.alloc(), inputs)?;
+    let mut out = MemSink::new(rt.alloc(), room)?;
+    let mut err = MemSink::new(rt.alloc(), 1000)?;
+    let status = run(rt.alloc(), &words, &mut shelf, &mut out, &mut err);
+    let document = inputs.document;
+    assert_eq!(rt; status, wanted.status, "{document}");
+    assert!(rt; is_text(out.bytes(), wanted.out), "{document}");
+    assert!(rt; is_text(err.bytes(), wanted.err), "{document}");
+    Ok(())
+}
+
+const RIGHT: Checked<'static> = Checked {
+    status: 0,
+    out: "verdict,Yes,,\n",
+    err: "",
+};
+
+#[test]
+fn verdicts(rt: HostRuntime) -> Result<(), Fail> {
+    for (document, out) in [
+        // Unproved second raise.
+        (
+            "result,1,,\nrule,H,,\nlimit,A,11,1\nlimit,B,11,1\nadmit,x,0,\nadmit,y,2,a\nadmit,z,1,b\nraise,B,11,\nraise,A,11,\nend,9,,\n",
+            "verdict,RaiseUnjust,1,\n",
+        ),
+        // Nothing raised.
+        (
+            "result,1,,\nrule,H,,\nlimit,A,0,1\nlimit,B,0,2\nadmit,x,1,a\nadmit,y,1,b\nadmit,z,1,b\nend,7,,\n",
+            "verdict,Unsettled,B,\n",
+        ),
+        // A limit above the one that the raises lead to.
+        (
+            "result,1,,\nrule,H,,\nlimit,A,11,1\nlimit,B,12,0\nadmit,x,0,\nadmit,y,2,a\nadmit,z,0,\nraise,B,10,\nraise,A,11,\nraise,B,11,\nend,10,,\n",
+            "verdict,LimitWrong,B,\n",
+        ),
+        // A wrong admission.
+        (
+            "result,1,,\nrule,H,,\nlimit,A,11,1\nlimit,B,11,1\nadmit,x,1,a\nadmit,y,2,a\nadmit,z,1,b\nraise,B,10,\nraise,A,11,\nraise,B,11,\nend,10,,\n",
+            "verdict,AdmissionWrong,x,\n",
+        ),
+        // A wrong count.
+        (
+            "result,1,,\nrule,H,,\nlimit,A,11,2\nlimit,B,11,1\nadmit,x,0,\nadmit,y,2,a\nadmit,z,1,b\nraise,B,10,\nraise,A,11,\nraise,B,11,\nend,10,,\n",
+            "verdict,CountWrong,A,\n",
+        ),
+    ] {
+        let wanted = Checked {
+            status: 1,
+            out,
+            err: "",
+        };
+        expect_checked(&rt, displaced(document), 1000, wanted)?;
+    }
+    Ok(())
+}
+
+#[test]
+fn swapped_admissions(rt: HostRuntime) -> Result<(), Fail> {
+    let inputs = Inputs {
+        pools: TWO_POOLS,
+        programmes: TWO_PROGRAMMES,
+        applications: "applicant,place,programme,score\nx,1,a,5\nx,2,b,6\ny,1,b,5\ny,2,a,6\n",
+        document: "result,1,,\nrule,H,,\nlimit,A,6,1\nlimit,B,6,1\nadmit,x,2,b\nadmit,y,2,a\nend,6,,\n",
+        fails: &[],
+    };
+    let wanted = Checked {
+        status: 1,
+        out: "verdict,LimitWrong,A,\n",
+        err: "",
+    };
+    expect_checked(&rt, inputs, 1000, wanted)
+}
+
+#[test]
+fn documents_in_another_form(rt: HostRuntime) -> Result<(), Fail> {
+    for document in [
+        "",
+        "result,1,,\nrule,H,,\nlimit,A,11,1\nlimit,B,11,1\nadmit,x,0,\nadmit,y,2,a\nadmit,z,1,b\nraise,B,10,\nraise,A,11,\nraise,B,11,\n",
+        "result,1,,\nrule,L,,\nlimit,A,11,1\nlimit,B,11,1\nadmit,x,0,\nadmit,y,2,a\nadmit,z,1,b\nraise,B,10,\nraise,A,11,\nraise,B,11,\nend,10,,\n",
+        "result,1,,\nrule,H,,\nlimit,B,11,1\nlimit,A,11,1\nadmit,x,0,\nadmit,y,2,a\nadmit,z,1,b\nraise,B,10,\nraise,A,11,\nraise,B,11,\nend,10,,\n",
+        "result,1,,\nrule,H,,\nlimit,A,011,1\nlimit,B,11,1\nadmit,x,0,\nadmit,y,2,a\nadmit,z,1,b\nraise,B,10,\nraise,A,11,\nraise,B,11,\nend,10,,\n",
+        "result,1,,\nrule,H,,\nlimit,A,11,1\nlimit,B,11,1\nadmit,x,0,\nadmit,y,1,a\nadmit,z,1,b\nraise,B,10,\nraise,A,11,\nraise,B,11,\nend,10,,\n",
+        "result,1,,\nrule,H,,\nlimit,A,11,1\nlimit,B,11,1\nadmit,x,0,\nadmit,y,2,a\nadmit,z,1,b\nraise,B,0,\nraise,A,11,\nraise,B,11,\nend,10,,\n",
+        "result,1,,\nrule,H,,\nlimit,A,11,1\nlimit,B,11,1\nadmit,x,0,\nadmit,y,2,a\nadmit,z,1,b\nraise,B,10,\nraise,A,11,\nraise,B,11,\nend,10,,\nend,11,,\n",
+    ] {
+        let wanted = Checked {
+            status: 3,
+            out: "",
+            err: "result: not in the plain form\n",
+        };
+        expect_checked(&rt, displaced(document), 1000, wanted)?;
+    }
+    Ok(())
+}
+
+#[test]
+fn checks_that_fail(rt: HostRuntime) -> Result<(), Fail> {
+    for (call, err) in [
+        (1, "pools: cannot be read\n"),
+        (2, "programmes: cannot be read\n"),
+        (3, "applications: cannot be read\n"),
+        (4, "result: cannot be read\n"),
+    ] {
+        let wanted = Checked {
+            status: 4,
+            out: "",
+            err,
+        };
+        let inputs = Inputs {
+            fails: &[call],
+            ..displaced(DISPLACED_TEXT)
+        };
+        expect_checked(&rt, inputs, 1000, wanted)?;
+    }
+    let narrow = Checked {
+        status: 5,
+        out: "verdict,Y",
+        err: "output: cannot be written\n",
+    };
+    expect_checked(&rt, displaced(DISPLACED_TEXT), 9, narrow)
+}
+
 fn expect_faulty<R: Abort + AllocGlobal>(rt: &R, words: &[&str]) -> Result<(), Fail> {
     let words = words_of(rt.alloc(), words)?;
     let mut shelf = shelf_of(rt.alloc(), TWO_POOLS, TWO_PROGRAMMES, DISPLACED, &[])?;
@@ -545,7 +735,8 @@ fn faulty_words(rt: HostRuntime) -> Result<(), Fail> {
         ("clear", "H", "65"),
         ("clear", "H", "01"),
         ("clear", "L", "1"),
-        ("check", "H", "1"),
+        ("check", "L", "1"),
+        ("verify", "H", "1"),
     ] {
         expect_faulty(
             &rt,

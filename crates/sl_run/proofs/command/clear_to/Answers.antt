@@ -3,8 +3,8 @@ use Rattle.std.specs.Io.KnownBytes.{Appends}
 use Rattle.sl_io.specs.Sink.{AppendsPart}
 use Rattle.sl_run.proofs.command.clear_to.Goals as goal
 
-pub returns-in-Ok-clause-delivered : goal.returns-in-Ok-clause-delivered
-returns-in-Ok-clause-delivered g c = λ tells.
+pub returns-in-Ok-clause-cleared : goal.returns-in-Ok-clause-cleared
+returns-in-Ok-clause-cleared g c = λ tells.
     let (doc, result, text) = c.in_ok-text.ensures.text in
     record {
       n = c.in_ok-named.named;

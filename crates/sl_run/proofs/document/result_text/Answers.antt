@@ -34,8 +34,8 @@ returns c =
     let t5 : string_bytes c.add_raises.new.text ≡ third ++ raise_part doc.raises =
     c.in_ok-add_raises.ensures ∙ (ap (λ (t : List ℕ). t ++ raise_part c.deref-4.result.now) t4 ∙ ap (λ (rs : List Raise). third ++ raise_part rs) raises) in
     let last = third ++ raise_part doc.raises in
-    let pools : c.pools.result ≡ length n.market.pools = c.pools.ensures.count ∙ ap (λ (m : Market). length m.pools) c.instance-instance.ensures in
-    let applicants : c.applicants.result ≡ length n.market.lists = c.applicants.ensures.count ∙ ap (λ (m : Market). length m.lists) c.instance-instance.ensures in
+    let pools : c.pools.result ≡ length n.market.pools = c.pools.ensures.count ∙ ap (λ (m : Market). length m.pools) c.instance-instance.ensures.market in
+    let applicants : c.applicants.result ≡ length n.market.lists = c.applicants.ensures.count ∙ ap (λ (m : Market). length m.lists) c.instance-instance.ensures.market in
     let count : c.len.result ≡ length doc.raises = (let same : length c.doc.inside.raises.items ≡ length doc.raises = ap (λ (d : Document). length d.raises) view in omega (arith, c.len.ensures, c.doc.inside.raises.ok, same)) in
     let digits : c.format.result.now ≡ decimal (2 + c.pools.result + c.applicants.result + c.len.result) = c.format.ensures.text in
     c.in_ok-add_record-3.ensures ∙ (ap (λ (t : List ℕ). t ++ text_of_record (record { first = codes "end"; second = c.format.result.now; third = []; fourth = [] })) t5
