@@ -1,10 +1,13 @@
 ghost use Rattle.std.specs.Prelude.{◌≡◌, ◌==◌, ◌<◌, ◌-◌, ◌^◌, [], not, Some, length, slice_get, map, string_bytes, IfOk, IfSome, OnOk, OnErr, false, is_some, ◌++◌, ◌∷◌};
+ghost use Rattle.std.specs.List.{IsDistinct};
+ghost use Rattle.std.specs.Str.{bytes_eq};
 ghost use Rattle.sl_codes.specs.Codes.{has_code, number_of, with_code};
 
 use indexmap::IndexSet;
 use sl_types::OutOfMemory;
 use std::alloc::{AllocError, Global};
 use std::marker::Model;
+use std::str;
 
 /// Texts in first-seen order, each once: the number of a code is its place, from 0. Contracts see the list
 /// of their bytes.
@@ -14,11 +17,13 @@ pub struct Codes {
 }
 
 impl Model for Codes {
-    ghost use Rattle.std.specs.Prelude.{ℕ, List, map, string_bytes};
+    ghost use Rattle.std.specs.Prelude.{ℕ, List, map, string_bytes, length, ◌<◌, ◌^◌};
 
     ghost Value = { List (List ℕ) };
 
     ghost view = { λ s. map (λ k. string_bytes k) s.set.keys };
+
+    ghost invariant = { λ s. length s.set.keys < 2 ^ 32 };
 }
 
 // The number of a code.
@@ -29,6 +34,27 @@ fn place(set: &IndexSet<String>, code: &str) -> Option<usize>
     ensures found { is_some result ≡ has_code (map (λ k. string_bytes k) set.now.keys) code.now }
 {
     set.get_index_of(code)
+}
+
+// The number of the code of these bytes.
+fn place_of_bytes(set: &IndexSet<String>, code: &[u8]) -> Option<usize>
+    ensures index { result ≡ number_of (map (λ k. string_bytes k) set.now.keys) code.now }
+    ensures found { is_some result ≡ has_code (map (λ k. string_bytes k) set.now.keys) code.now }
+    ensures within { IfSome result (λ i. i < length set.now.keys) }
+{
+    match str::from_utf8(code) {
+        Ok(text) => place(set, text),
+        Err(_) => None,
+    }
+}
+
+// How many codes there are.
+#[tactic(auto, using(crate::proofs::Lists::distinct_map, crate::proofs::Lists::length_map))]
+fn count(set: &IndexSet<String>) -> usize
+    ensures count { result ≡ length set.now.keys }
+    ensures once { IsDistinct bytes_eq (map (λ k. string_bytes k) set.now.keys) }
+{
+    set.len()
 }
 
 // Adds a code that is not there.
@@ -55,9 +81,11 @@ impl Codes {
 
     /// How many codes there are.
     pub fn len(&self) -> usize
-        ensures { result ≡ length self.now }
+        ensures count { result ≡ length self.now }
+        ensures few { length self.now < 2 ^ 32 }
+        ensures once { IsDistinct bytes_eq self.now }
     {
-        self.set.len()
+        count(&self.set)
     }
 
     /// Whether there are none.
@@ -69,11 +97,22 @@ impl Codes {
 
     /// The number of a code, where it is there.
     pub fn find(&self, code: &str) -> Option<u32>
-        requires { length self.now < 2 ^ 32 }
         ensures { result ≡ number_of self.now code.now }
     {
         match place(&self.set, code) {
             Some(index) => Some(index as u32),
+            None => None,
+        }
+    }
+
+    /// The number of the code of these bytes, where it is there. Bytes that aren't UTF-8 are no code's.
+    pub fn find_bytes(&self, code: &[u8]) -> Option<u32>
+        ensures number { result ≡ number_of self.now code.now }
+        ensures found { is_some result ≡ has_code self.now code.now }
+        ensures within { IfSome result (λ n. n < length self.now) }
+    {
+        match place_of_bytes(&self.set, code) {
+            Some(place) => Some(place as u32),
             None => None,
         }
     }

@@ -1,4 +1,5 @@
 use super::*;
+use csv::ByteRecord;
 use std::test::Fail;
 
 #[test]
@@ -19,5 +20,72 @@ fn numbers_in_first_seen_order(rt: HostRuntime) -> Result<(), Fail> {
     assert_eq!(rt; codes.find("A"), Some(1));
     assert_eq!(rt; codes.find("a"), None);
     assert_eq!(rt; codes.text(3), "Á-1");
+    assert_eq!(rt; codes.find_bytes("Á-1".as_bytes()), Some(3));
+    assert_eq!(rt; codes.find_bytes(b"\xC1-1"), None);
+    Ok(())
+}
+
+#[test]
+fn records_are_those_of_csv(rt: HostRuntime) -> Result<(), Fail> {
+    // A mark, CRLF, a blank line, quotes, a lone CR, an open quote at the end.
+    let text = b"\xEF\xBB\xBFa,b\r\n\r\n\"x,\"\"y\"\"\",\"\"\r\"q\"r,s\"t\n\"\"\n\"u\n,v";
+    let mut records = Records::new(rt.alloc(), text);
+    let mut row = ByteRecord::new(rt.alloc());
+    for fields in [
+        ["a", "b"].as_slice(),
+        ["x,\"y\"", ""].as_slice(),
+        ["qr", "s\"t"].as_slice(),
+        [""].as_slice(),
+        ["u\n,v"].as_slice(),
+    ] {
+        assert_eq!(rt; records.next(&mut row)?, true);
+        assert_eq!(rt; has_fields(&row, fields), true);
+    }
+    for _ in 0..2 {
+        assert_eq!(rt; records.next(&mut row)?, false);
+    }
+    Ok(())
+}
+
+#[test]
+fn fields_that_differ(rt: HostRuntime) -> Result<(), Fail> {
+    let mut records = Records::new(rt.alloc(), b"a,b\n");
+    let mut row = ByteRecord::new(rt.alloc());
+    assert_eq!(rt; records.next(&mut row)?, true);
+    for fields in [
+        ["a"].as_slice(),
+        ["a", "c"].as_slice(),
+        ["a", "b", ""].as_slice(),
+    ] {
+        assert_eq!(rt; has_fields(&row, fields), false);
+    }
+    Ok(())
+}
+
+#[test]
+fn numbers(rt: HostRuntime) -> Result<(), Fail> {
+    for (field, value) in [
+        (b"0".as_slice(), Ok(0)),
+        (b"000000007".as_slice(), Ok(7)),
+        (b"999999999".as_slice(), Ok(999_999_999)),
+        (b"".as_slice(), Err(Cause::BadNumber)),
+        (b"+1".as_slice(), Err(Cause::BadNumber)),
+        (b"1000000000".as_slice(), Err(Cause::BadNumber)),
+        (b"1\xFF".as_slice(), Err(Cause::BadNumber)),
+    ] {
+        assert_eq!(rt; number_within(field, 0, 999_999_999), value);
+    }
+    assert_eq!(rt; number_within(b"4", 5, 6), Err(Cause::BadNumber));
+    assert_eq!(rt; number_within(b"5", 5, 6), Ok(5));
+    assert_eq!(rt; number_within(b"7", 5, 6), Err(Cause::BadNumber));
+    Ok(())
+}
+
+#[test]
+fn names(rt: HostRuntime) -> Result<(), Fail> {
+    assert_eq!(rt; Table::Results.word(), "result");
+    assert_eq!(rt; Table::Amendments.word(), "amendments");
+    assert_eq!(rt; Cause::NotText.name(), "NotText");
+    assert_eq!(rt; Cause::NoEnd.name(), "NoEnd");
     Ok(())
 }

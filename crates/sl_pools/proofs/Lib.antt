@@ -1,0 +1,5 @@
+mod Firsts
+mod Kept
+mod Links
+mod Rows
+mod Ways

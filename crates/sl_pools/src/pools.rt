@@ -1,0 +1,237 @@
+ghost use Rattle.std.specs.Prelude.{◌≡◌, ◌≢◌, ◌≤◌, ◌<◌, ◌∷◌, ◌++◌, [], None, Some, List, length, map, position, OnOk, IfOk, IfErr, MatchResult, MatchOption, IfNone, true, false};
+ghost use Rattle.std.specs.Option.{option_or};
+ghost use Rattle.csv.specs.Records.{fields_of, partial_of};
+ghost use Rattle.sl_types.specs.declared.kinds.Rule.TheVariants.{Merit};
+ghost use Rattle.sl_codes.specs.Faults.{record_cause, first_fault, pass_fault, IsWrong, IsFirst};
+ghost use Rattle.sl_codes.specs.declared.faults.Cause.TheVariants.{UnknownParent};
+ghost use Rattle.sl_codes.specs.declared.faults.Table.TheVariants.{Pools};
+ghost use Rattle.sl_codes.specs.Fields.{number_of_field};
+ghost use Rattle.sl_codes.specs.Records.{Record, records_of, rows_of, field_of, codes_of};
+ghost use Rattle.sl_pools.specs.Pools.{parent_named, quota_cause, parent_cause, kind_cause, pool_form, pool_unlinked, parents_of, linked, is_unknown_parent, nesting_fault, pools_of, first_pool_fault, IsPoolList};
+
+use crate::nesting::{nesting_fault, pass_fault};
+use csv::ByteRecord;
+use sl_codes::{
+    Cause, Codes, ReadError, Records, RowError, Table, TableFault, add_code, code, field, number,
+    read_header,
+};
+use sl_types::{MAX_POOLS, MAX_QUOTA, Pool, PoolId, Rule};
+use std::alloc::Global;
+use std::marker::Model;
+
+const HEADER: [&str; 4] = ["pool", "quota", "parent", "kind"];
+
+/// The pools of a table and their codes, in the order of its records.
+#[derive(Drop)]
+pub struct PoolTable {
+    codes: Codes,
+    pools: Vec<Pool>,
+}
+
+impl Model for PoolTable {
+    ghost use Rattle.sl_pools.specs.Pools.{PoolList, IsPoolList};
+
+    ghost Value = { PoolList };
+
+    ghost view = { λ s. record { codes = s.codes; pools = s.pools.items } };
+
+    ghost invariant = { λ s. IsPoolList (record { codes = s.codes; pools = s.pools.items }) };
+}
+
+impl PoolTable {
+    /// The codes of the pools.
+    pub fn codes(&self) -> &Codes
+        ensures { result.now ≡ self.now.codes }
+    {
+        &self.codes
+    }
+
+    /// The pools.
+    pub fn pools(&self) -> &[Pool]
+        ensures pools { result.now ≡ self.now.pools }
+        ensures right { IsPoolList self.now }
+    {
+        self.pools.as_slice()
+    }
+
+    /// The codes and the pools.
+    pub fn into_parts(self) -> (Codes, Vec<Pool>)
+        ensures codes { result.0 ≡ self.codes }
+        ensures pools { result.1.items ≡ self.pools }
+        ensures right { IsPoolList self }
+    {
+        (self.codes, self.pools)
+    }
+}
+
+// What the records of a pool table hold before the whole file was read: the code and the pool of each, and
+// the field that names its parent.
+#[derive(Drop)]
+struct Draft {
+    codes: Codes,
+    pools: Vec<Pool>,
+    parents: ByteRecord,
+}
+
+// The quota of a field.
+fn quota(field: &[u8]) -> Result<u32, Cause>
+    ensures quota { IfOk result (λ n. number_of_field field.now ≡ Some n) }
+    ensures cause { MatchResult result (λ _. quota_cause field.now ≡ None) (λ cause. quota_cause field.now ≡ Some cause) }
+{
+    let Some(quota) = number(field) else {
+        return Err(Cause::BadNumber);
+    };
+    if quota < 1 || quota > MAX_QUOTA {
+        return Err(Cause::BadQuota);
+    }
+    Ok(quota)
+}
+
+// A parent is empty or a code. Whether there is such a pool is a matter of the whole file.
+fn check_parent(field: &[u8]) -> Result<(), Cause>
+    ensures { MatchResult result (λ _. parent_cause field.now ≡ None) (λ cause. parent_cause field.now ≡ Some cause) }
+{
+    if !field.is_empty() {
+        code(field)?;
+    }
+    Ok(())
+}
+
+fn check_kind(field: &[u8]) -> Result<(), Cause>
+    ensures { MatchResult result (λ _. kind_cause field.now ≡ None) (λ cause. kind_cause field.now ≡ Some cause) }
+{
+    if field != "score".as_bytes() {
+        return Err(Cause::BadKind);
+    }
+    Ok(())
+}
+
+impl Draft {
+    fn new(alloc: Global) -> Draft
+        ensures codes { result.codes ≡ [] }
+        ensures pools { result.pools.items ≡ [] }
+        ensures parents { fields_of result.parents ≡ [] }
+        ensures whole { partial_of result.parents ≡ [] }
+    {
+        Draft {
+            codes: Codes::new(alloc),
+            pools: Vec::new(alloc),
+            parents: ByteRecord::new(alloc),
+        }
+    }
+
+    // Takes the record of a pool, where pools of kind `score` have this rule.
+    fn take(&mut self, rule: Rule, row: &ByteRecord) -> Result<(), RowError>
+        requires { partial_of self.old.parents ≡ [] }
+        ensures right { OnOk result ((before : List Record) → self.old.codes ≡ codes_of before → record_cause pool_form before (fields_of row.now) ≡ None) }
+        ensures room { OnOk result (length self.old.codes < MAX_POOLS) }
+        ensures codes { OnOk result (self.new.codes ≡ self.old.codes ++ field_of (fields_of row.now) 0 ∷ []) }
+        ensures pools { OnOk result (self.new.pools.items ≡ self.old.pools.items ++ pool_unlinked rule (fields_of row.now) ∷ []) }
+        ensures parents { OnOk result (fields_of self.new.parents ≡ fields_of self.old.parents ++ field_of (fields_of row.now) 2 ∷ []) }
+        ensures whole { OnOk result (partial_of self.new.parents ≡ []) }
+        ensures wrong { IfErr result (λ e. (before : List Record) → self.old.codes ≡ codes_of before → IsWrong (record_cause pool_form before (fields_of row.now)) e) }
+    {
+        if row.len() != HEADER.len() {
+            return Err(RowError::Bad(Cause::FieldCount));
+        }
+        if self.codes.len() >= MAX_POOLS {
+            return Err(RowError::Bad(Cause::TooMany));
+        }
+        add_code(&mut self.codes, field(row, 0), Cause::RepeatedPool)?;
+        let quota = quota(field(row, 1))?;
+        check_parent(field(row, 2))?;
+        check_kind(field(row, 3))?;
+        let pool = Pool {
+            quota,
+            parent: None,
+            rule,
+        };
+        if self.parents.push_field(field(row, 2)).is_err() || self.pools.push(pool).is_err() {
+            return Err(RowError::OutOfMemory);
+        }
+        Ok(())
+    }
+}
+
+// Reads the records of a pool table, one after another.
+fn read_draft(alloc: Global, bytes: &[u8], rule: Rule) -> Result<Draft, ReadError>
+    ensures right { OnOk result (first_fault pool_form (records_of bytes.now) ≡ None) }
+    ensures codes { IfOk result (λ draft. draft.codes ≡ codes_of (rows_of bytes.now)) }
+    ensures pools { IfOk result (λ draft. draft.pools.items ≡ map (pool_unlinked rule) (rows_of bytes.now)) }
+    ensures parents { IfOk result (λ draft. fields_of draft.parents ≡ parents_of (rows_of bytes.now)) }
+    ensures few { OnOk result (length (rows_of bytes.now) ≤ MAX_POOLS) }
+    ensures refused { IfErr result (IsFirst (first_fault pool_form (records_of bytes.now))) }
+{
+    let mut records = Records::new(alloc, bytes);
+    let mut row = ByteRecord::new(alloc);
+    read_header(&mut records, &mut row, Table::Pools, &HEADER)?;
+    let mut draft = Draft::new(alloc);
+    'rows: while records.next(&mut row)? {
+        let before = draft.pools.len();
+        if let Err(e) = draft.take(rule, &row) {
+            return Err(e.after(Table::Pools, before));
+        }
+    }
+    Ok(draft)
+}
+
+// The parent that a field names, where there is such a pool or the field is empty.
+fn parent_named(codes: &Codes, field: &[u8]) -> Option<Option<PoolId>>
+    ensures { MatchOption result (is_unknown_parent codes.now field.now ≡ true) (λ parent. (is_unknown_parent codes.now field.now ≡ false) × (parent ≡ parent_named codes.now field.now)) }
+{
+    if field.is_empty() {
+        return Some(None);
+    }
+    let number = codes.find_bytes(field)?;
+    Some(Some(PoolId(number)))
+}
+
+// Gives each pool the parent that its field names. The error is the first pool whose parent is no pool.
+fn link(codes: &Codes, parents: &ByteRecord, pools: &mut [Pool]) -> Result<(), usize>
+    requires { length (fields_of parents.now) ≡ length pools.old }
+    ensures linked { OnOk result (pools.new ≡ linked codes.now (fields_of parents.now) pools.old) }
+    ensures known { OnOk result (position (is_unknown_parent codes.now) (fields_of parents.now) ≡ None) }
+    ensures unknown { IfErr result (λ at. position (is_unknown_parent codes.now) (fields_of parents.now) ≡ Some at) }
+    ensures within { IfErr result (λ at. at < length pools.old) }
+{
+    'pools: for pool in 0..pools.len() {
+        match parent_named(codes, field(parents, pool)) {
+            Some(parent) => pools[pool].parent = parent,
+            None => return Err(pool),
+        }
+    }
+    Ok(())
+}
+
+// The first fault of the passes over the whole file, of which the first gives each pool its parent.
+fn whole_file_fault(codes: &Codes, parents: &ByteRecord, pools: &mut [Pool]) -> Option<TableFault>
+    requires few { length pools.old ≤ MAX_POOLS }
+    requires coded { length codes.now ≡ length pools.old }
+    requires each { length (fields_of parents.now) ≡ length pools.old }
+    ensures fault { result ≡ option_or (pass_fault Pools UnknownParent (position (is_unknown_parent codes.now) (fields_of parents.now))) (nesting_fault (linked codes.now (fields_of parents.now) pools.old)) }
+    ensures linked { IfNone result (pools.new ≡ linked codes.now (fields_of parents.now) pools.old) }
+{
+    match link(codes, parents, pools) {
+        Ok(()) => nesting_fault(pools),
+        Err(pool) => Some(pass_fault(Cause::UnknownParent, pool)),
+    }
+}
+
+/// Reads a pool table. Pools of kind `score` have the rule that is given; kind `merit` is refused until trees
+/// of pools come.
+pub fn read_pools(alloc: Global, bytes: &[u8], rule: Rule) -> Result<PoolTable, ReadError>
+    requires rule { rule ≢ Merit }
+    ensures right { OnOk result (first_pool_fault rule (records_of bytes.now) ≡ None) }
+    ensures table { IfOk result (λ table. table ≡ pools_of rule (rows_of bytes.now)) }
+    ensures refused { IfErr result (IsFirst (first_pool_fault rule (records_of bytes.now))) }
+{
+    let Draft {
+        codes,
+        mut pools,
+        parents,
+    } = read_draft(alloc, bytes, rule)?;
+    match whole_file_fault(&codes, &parents, &mut pools) {
+        Some(fault) => Err(ReadError::Bad(fault)),
+        None => Ok(PoolTable { codes, pools }),
+    }
+}
