@@ -21,25 +21,25 @@ use Rattle.sl_laws.proofs.Passes.{passes_no_stable}
 use Rattle.sl_laws.proofs.Fits.{deciding, limit_in, round_in, meets_merit}
 
 module _ (market : Market) (ok : IsWellFormed market) where
-  merit_in : (P : ℕ) → rule_of market P ≡ Merit → P < length market.pools
+  pub merit_in : (P : ℕ) → rule_of market P ≡ Merit → P < length market.pools
   merit_in P merit = elim (cases_lt P (length market.pools)) [
     | inl fine ↦ fine
     | inr past ↦ let h : rule_of market P ≡ H = ap (λ (p : Pool). p.rule) (get_or_past market.pools P no_pool past) in let k : H ≡ Merit = sym h ∙ merit in cc
   ]
 
-  asked_of : (r : Limits) (P x : ℕ) (rule : Rule) → rule_of market P ≡ rule → IsJustified market r P x → IsJustifiedBy rule market r P x
+  pub asked_of : (r : Limits) (P x : ℕ) (rule : Rule) → rule_of market P ≡ rule → IsJustified market r P x → IsJustifiedBy rule market r P x
   asked_of r P x rule is j = subst (λ (rule : Rule). IsJustifiedBy rule market r P x) is j
 
-  just_of : (r : Limits) (P x : ℕ) (rule : Rule) → rule_of market P ≡ rule → IsJustifiedBy rule market r P x → IsJustified market r P x
+  pub just_of : (r : Limits) (P x : ℕ) (rule : Rule) → rule_of market P ≡ rule → IsJustifiedBy rule market r P x → IsJustified market r P x
   just_of r P x rule is j = subst (λ (rule : Rule). IsJustifiedBy rule market r P x) (sym is) j
 
-  score_of : (P : ℕ) (rule : Rule) → rule_of market P ≡ rule → rule ≢ Merit → IsScorePool market P
+  pub score_of : (P : ℕ) (rule : Rule) → rule_of market P ≡ rule → rule ≢ Merit → IsScorePool market P
   score_of P rule is plain m = plain (sym is ∙ m)
 
-  h_plain : H ≢ Merit
+  pub h_plain : H ≢ Merit
   h_plain e = cc
 
-  l_plain : L ≢ Merit
+  pub l_plain : L ≢ Merit
   l_plain e = cc
 
   -- each number that decides a limit was justified at limits of at most t

@@ -1,4 +1,4 @@
--- The greatest justified raise, and that settled pools depend on effective limits alone.
+-- The greatest justified raise.
 use Rattle.std.proofs.Common.{◌≡◌, ◌⊎◌, ◌↔◌, ℕ, zero, suc, ◌+◌, ◌-◌, ◌<◌, ◌≤◌, Bool, true, false, refl, sym, ap, ◌∙◌, arith, inl, inr, leb-true, le-leb, ltb-true, lt-ltb, subst}
 use Rattle.std.proofs.lemmas.Bool.{cases_Bool, and_from, and_parts, cases_eq}
 use Rattle.sl_types.specs.declared.kinds.Rule.{Rule}
@@ -6,14 +6,12 @@ use Rattle.sl_types.specs.declared.kinds.Rule.TheVariants.{H, L, Merit}
 use Rattle.sl_types.specs.declared.kinds.TheConstants.{MAX_SCORE}
 use Rattle.sl_types.specs.Market.{Market, quota_of, rule_of}
 use Rattle.sl_types.specs.WellFormed.{IsWellFormed}
-use Rattle.sl_laws.specs.Raises.{limits_after}
-use Rattle.sl_laws.specs.Limits.{Limits, with_limit, effective_limit, demand, capped_demand}
+use Rattle.sl_laws.specs.Limits.{Limits, with_limit, demand, capped_demand}
 use Rattle.sl_laws.specs.Stable.{IsJustified, IsJustifiedBy}
 use Rattle.sl_laws.specs.Best.{is_justified, is_justified_by, last_passing, best_raise}
-use Rattle.sl_laws.specs.Laws.{BestDecides, SettledAlike}
+use Rattle.sl_laws.specs.Laws.{BestDecides}
 use Rattle.sl_laws.proofs.Score.{justified_below}
 use Rattle.sl_laws.proofs.Top.{justified_has_top}
-use Rattle.sl_laws.proofs.AllRules.{stays_justified}
 
 just_true : (rule : Rule) (market : Market) (t : Limits) (P x : ℕ) → is_justified_by rule market t P x ≡ true → IsJustifiedBy rule market t P x
 just_true H market t P x e = ltb-true (quota_of market P) (demand market t P (x - 1)) e
@@ -61,16 +59,6 @@ best_decides market ok t P x P_in some' = (
     | inr e ↦ justified_below market ok t P (best_raise market t P) x low (just_true (rule_of market P) market t P (best_raise market t P) e)
   ]),
 )
-
--- whether a pool is settled at what sound lists reach depends on effective limits alone
-pub settled_alike : (market : Market) → IsWellFormed market → SettledAlike market
-settled_alike market ok c d sound sound' same P P_in settled j =
-    let x : ℕ = effective_limit market (limits_after d) P + 1 in
-    let e = same P P_in in
-    elim (stays_justified market ok c sound (limits_after d) (λ Q Q_in. let k = same Q Q_in in omega (arith, k)) P x j) [
-      | inl low ↦ absurd (omega (arith, low, e))
-      | inr just ↦ settled (subst (λ (y : ℕ). IsJustified market (limits_after c) P (y + 1)) (sym e) just)
-    ]
 
 justified_at : (rule : Rule) (market : Market) (t : Limits) (P x : ℕ) → rule_of market P ≡ rule → IsJustified market t P x ↔ IsJustifiedBy rule market t P x
 justified_at rule market t P x is = (subst (λ (rule : Rule). IsJustifiedBy rule market t P x) is, subst (λ (rule : Rule). IsJustifiedBy rule market t P x) (sym is))

@@ -19,6 +19,7 @@ pub mod Least
 pub mod AllRules
 pub mod Local
 pub mod Top
+pub mod Alike
 pub mod Best
 pub mod Feeding
 pub mod Earlier

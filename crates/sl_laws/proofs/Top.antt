@@ -1,4 +1,4 @@
--- No raise above the greatest score and one is justified.
+-- No raise to more than one point above the greatest score is justified.
 use Rattle.std.proofs.Common.{◌≡◌, ◌+◌, ℕ, zero, suc, ◌-◌, ◌<◌, ◌≤◌, Bool, true, ◌&&◌, List, [], ◌∷◌, get_or, length, filter, All, Some, refl, sym, ap, ◌∙◌, arith, inl, inr, min, nat_eq, nat_le, leb-true}
 use Rattle.std.proofs.lemmas.Bool.{cases_Bool, and_parts, cases_lt}
 use Rattle.std.proofs.lemmas.List.Elements.{All-head, All-tail, All-contains, All-from_get_or}

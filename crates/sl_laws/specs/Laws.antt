@@ -27,7 +27,7 @@ DemandIsMonotone market = (P : ℕ) → IsScorePool market P → (t u : Limits) 
 abbrev pub JustifiedBelow : Market → Type 0
 JustifiedBelow market = (t : Limits) (P x y : ℕ) → y ≤ x → IsJustified market t P x → IsJustified market t P y
 
--- no raise above the greatest score and one is justified
+-- no raise to more than one point above the greatest score is justified
 abbrev pub JustifiedHasTop : Market → Type 0
 JustifiedHasTop market = (t : Limits) (P x : ℕ) → P < length market.pools → IsJustified market t P x → x ≤ MAX_SCORE + 1
 
@@ -71,11 +71,10 @@ ProvesTheLeast market = (c : List Raise) (l : Limits) → Proves market c l → 
 abbrev pub BestDecides : Market → Type 0
 BestDecides market = (t : Limits) (P x : ℕ) → P < length market.pools → 1 ≤ x → IsJustified market t P x ↔ (x ≤ best_raise market t P)
 
--- whether a pool is settled at what sound lists reach depends on effective limits alone
+-- whether a pool is settled depends on effective limits alone
 abbrev pub SettledAlike : Market → Type 0
-SettledAlike market = (c d : List Raise) → IsSound market c → IsSound market d
-    → ((Q : ℕ) → Q < length market.pools → effective_limit market (limits_after c) Q ≡ effective_limit market (limits_after d) Q)
-    → (P : ℕ) → P < length market.pools → IsSettled market (limits_after c) P → IsSettled market (limits_after d) P
+SettledAlike market = (t u : Limits) → ((Q : ℕ) → Q < length market.pools → effective_limit market t Q ≡ effective_limit market u Q)
+    → (P : ℕ) → P < length market.pools → IsSettled market t P → IsSettled market u P
 
 -- Q feeds P where Q isn't P, and some applicant has a choice in Q, and that or a later one in P
 abbrev pub FeedsSays : Market → Type 0

@@ -62,7 +62,7 @@ pub fn best_decides()
     ensures { (market : Market) → IsValid market → BestDecides market }
 {}
 
-/// Whether a pool is settled at what sound lists reach depends on effective limits alone.
+/// Whether a pool is settled depends on effective limits alone.
 pub fn settled_alike()
     ensures { (market : Market) → IsValid market → SettledAlike market }
 {}

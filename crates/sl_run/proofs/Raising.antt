@@ -14,7 +14,8 @@ use Rattle.sl_laws.proofs.Nest.{le_limit, lies_own}
 use Rattle.sl_laws.proofs.Score.{justified_below}
 use Rattle.sl_laws.proofs.Slices.{set_replaces, same_limits}
 use Rattle.sl_laws.proofs.Top.{justified_has_top}
-use Rattle.sl_run.specs.Clearing.{IsGreatestRaise, IsUnderWay, AreSettled, room}
+use Rattle.sl_check.specs.Verdict.{AreSettled}
+use Rattle.sl_run.specs.Clearing.{IsGreatestRaise, IsUnderWay, room}
 
 -- each justified raise is below two more than the greatest score
 pub below_all : (market : Market) → IsWellFormed market → (t : Limits) (P : ℕ) → P < length market.pools → (y : ℕ) → IsJustified market t P y → y < MAX_SCORE + 2

@@ -4,7 +4,7 @@ use Rattle.sl_types.specs.declared.kinds.Raise.{Raise}
 use Rattle.sl_types.specs.declared.kinds.TheConstants.{MAX_SCORE}
 use Rattle.sl_types.specs.Market.{Market}
 use Rattle.sl_laws.specs.Limits.{Limits, effective_limit}
-use Rattle.sl_laws.specs.Stable.{IsJustified, IsSettled}
+use Rattle.sl_laws.specs.Stable.{IsJustified}
 use Rattle.sl_laws.specs.Raises.{Replays, limits_after}
 
 -- x is the greatest justified raise of P, and above its effective limit
@@ -18,10 +18,6 @@ pub record IsUnderWay (market : Market) (limits : List ℕ) (raises : List Raise
   pub each : length limits ≡ length market.pools
   pub replays : Replays market raises
   pub reach : (P : ℕ) → slice_index limits P ≡ limits_after raises P
-
--- no pool can be raised
-abbrev pub AreSettled : Market → Limits → Type 0
-AreSettled market t = (P : ℕ) → P < length market.pools → IsSettled market t P
 
 -- how far the limits can still rise, all together
 abbrev pub room : List ℕ → ℕ

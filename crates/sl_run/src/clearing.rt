@@ -2,7 +2,8 @@ ghost use Rattle.std.specs.Prelude.{◌≡◌, ◌<◌, ℕ, length, slice_index
 ghost use Rattle.sl_laws.specs.Limits.{effective_limit};
 ghost use Rattle.sl_laws.specs.Stable.{IsSettled, IsLeastStable};
 ghost use Rattle.sl_laws.specs.Raises.{Proves};
-ghost use Rattle.sl_run.specs.Clearing.{IsGreatestRaise, IsUnderWay, AreSettled, room};
+ghost use Rattle.sl_check.specs.Verdict.{AreSettled};
+ghost use Rattle.sl_run.specs.Clearing.{IsGreatestRaise, IsUnderWay, room};
 
 use sl_laws::{plain_eff, plain_justified};
 use sl_types::{Instance, MAX_SCORE, OutOfMemory, PoolId, Raise};
