@@ -1,0 +1,6 @@
+mod Fields
+pub mod Kept
+mod Links
+mod Lists
+mod Numbers
+mod Records
