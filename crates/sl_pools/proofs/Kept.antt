@@ -1,6 +1,6 @@
 -- What a table that was read keeps.
-use Rattle.std.proofs.Common.{◌≡◌, ◌∙◌, ◌<◌, ◌≤◌, ◌||◌, ◌&&◌, ℕ, Bool, true, false, not, cond, List, [], ◌∷◌, map, drop, length, get_or, nat_lt, nat_le, position, Option, Some, None, is_none, refl, sym, arith, inl, inr, true≢false}
-use Rattle.std.specs.Prelude.{unwrap_or, option_and_then, All}
+use Rattle.std.proofs.Common.{◌≡◌, ◌≢◌, ◌∙◌, ◌<◌, ◌≤◌, ◌||◌, ◌&&◌, ℕ, Bool, true, false, not, cond, zero, suc, List, [], ◌∷◌, map, drop, length, get_or, nat_lt, nat_le, position, Option, Some, None, is_none, refl, sym, arith, inl, inr, true≢false}
+use Rattle.std.specs.Prelude.{unwrap_or, option_and_then, is_some, All}
 use Rattle.std.specs.List.{list_all, list_any, position_or_len, AllByRecursion}
 use Rattle.std.proofs.lemmas.Bool.{cases_Bool, and_parts, leb-true, ltb-true, lt-ltb}
 use Rattle.std.proofs.lemmas.List.Elements.{All-from_recursion}
@@ -9,11 +9,13 @@ use Rattle.sl_codes.specs.Codes.{has_code}
 use Rattle.sl_types.specs.declared.kinds.Pool.{Pool}
 use Rattle.sl_types.specs.declared.kinds.PoolId.{PoolId}
 use Rattle.sl_types.specs.declared.kinds.Rule.{Rule}
+use Rattle.sl_types.specs.declared.kinds.Rule.TheVariants.{H, L, Merit}
 use Rattle.sl_types.specs.declared.kinds.TheConstants.{MAX_POOLS, MAX_PROGRAMMES, MAX_QUOTA}
-use Rattle.sl_types.specs.Market.{no_pool, pool_numbers}
-use Rattle.sl_types.specs.Rules.{has_quota_out, has_parent_out, has_parent_where, is_no_pool, is_in_ring, is_too_deep, is_badly_nested}
+use Rattle.sl_types.specs.Market.{Market, no_pool, pool_numbers, rule_of}
+use Rattle.sl_types.specs.Rules.{has_quota_out, has_parent_out, has_parent_where, is_no_pool, is_in_ring, is_too_deep, is_badly_nested, is_merit}
+use Rattle.sl_types.specs.Stage.{is_in_tree}
 use Rattle.sl_types.specs.Valid as Valid
-use Rattle.sl_types.proofs.Lists.{none_first}
+use Rattle.sl_types.proofs.Lists.{none_fails, none_first}
 use Rattle.sl_codes.specs.declared.faults.Cause.TheVariants.{BadQuota, UnknownParent, ParentCycle, TooDeep, KindDiffers, RepeatedPool, RepeatedProgramme, UnknownPool}
 use Rattle.sl_codes.specs.declared.faults.Table.TheVariants.{Pools}
 use Rattle.sl_codes.specs.Faults.{new_code_cause, name_cause, first_fault, pass_fault}
@@ -94,7 +96,8 @@ linked_inside pools linked = first_none (has_parent_out (pools_alone pools)) poo
     ]
 
 -- pools that are linked and pass
-nested_right : (pools : List Pool) → AreLinked pools → nesting_fault pools ≡ None → Valid.nesting_fault (pools_alone pools) ≡ None
+nested_right : (pools : List Pool) → AreLinked pools → nesting_fault pools ≡ None
+    → (Valid.nesting_fault (pools_alone pools) ≡ None) × (position (is_badly_nested (pools_alone pools)) pools ≡ None)
 nested_right pools linked h =
     let first = neither (pass_fault Pools ParentCycle (position (is_in_ring (pools_alone pools)) (pool_numbers (pools_alone pools)))) _ h in
     let second = neither (pass_fault Pools TooDeep (position (is_too_deep (pools_alone pools)) (pool_numbers (pools_alone pools)))) _ first.1 in
@@ -102,12 +105,36 @@ nested_right pools linked h =
     let deep = pass_none TooDeep _ second.0 in
     let nested = pass_none KindDiffers (position (is_badly_nested (pools_alone pools)) pools) second.1 in
     let out = linked_inside pools linked in
-    rw (out, ring, deep, nested) refl
+    (rw (out, ring, deep, nested) refl, nested)
+
+not_merit : (rule : Rule) → rule ≢ Merit → is_merit rule ≡ false
+not_merit H h = refl
+not_merit L h = refl
+not_merit Merit h = absurd (h refl)
+
+-- pools of one rule that isn't Merit have no parent where none is badly nested
+stand_alone : (rule : Rule) (codes : List (List ℕ)) (rows : List Record) (market : Market) → rule ≢ Merit
+    → position (is_badly_nested market) (map (pool_of rule codes) rows) ≡ None → position is_in_tree (map (pool_of rule codes) rows) ≡ None
+stand_alone rule codes rows market apart nested =
+    first_none is_in_tree (map (pool_of rule codes) rows) no_pool
+    (λ k lt. alone market (get_or (map (pool_of rule codes) rows) k no_pool) (ruled rule codes rows k (not_merit rule apart)) (none_fails (is_badly_nested market) (map (pool_of rule codes) rows) nested k no_pool lt))
+  where
+    ruled : (rule : Rule) (codes : List (List ℕ)) (rows : List Record) (k : ℕ) → is_merit rule ≡ false → is_merit (get_or (map (pool_of rule codes) rows) k no_pool).rule ≡ false
+    ruled rule codes [] k h = refl
+    ruled rule codes (row ∷ rows) zero h = h
+    ruled rule codes (row ∷ rows) (suc k) h = ruled rule codes rows k h
+
+    in_none : (market : Market) (merit : Bool) (o : Option PoolId) → merit ≡ false → has_parent_where (λ Q. not (merit && is_merit (rule_of market Q.0))) o ≡ false → (is_some o || merit) ≡ false
+    in_none market merit None h nested = h
+    in_none market merit (Some Q) h nested = let yes = rw h at nested in absurd (true≢false yes)
+
+    alone : (market : Market) (pool : Pool) → is_merit pool.rule ≡ false → is_badly_nested market pool ≡ false → is_in_tree pool ≡ false
+    alone market pool h nested = in_none market (is_merit pool.rule) pool.parent h nested
 
 -- a table of pools
-pub pool_list : (rule : Rule) (records : List Record) → first_pool_fault rule records ≡ None → length (drop 1 records) ≤ MAX_POOLS
+pub pool_list : (rule : Rule) (records : List Record) → rule ≢ Merit → first_pool_fault rule records ≡ None → length (drop 1 records) ≤ MAX_POOLS
     → IsPoolList (pools_of rule (drop 1 records))
-pool_list rule records right few =
+pool_list rule records apart right few =
     let rows = drop 1 records in
     let both = neither (first_fault pool_form records) (parents_fault rule rows) right in
     let passes = neither (pass_fault Pools UnknownParent (position (is_unknown_parent (codes_of rows)) (parents_of rows))) (nesting_fault (pools_of rule rows).pools) both.1 in
@@ -117,12 +144,14 @@ pool_list rule records right few =
     (λ before row h. quota_right rule row (neither (quota_cause (field_of row 1)) _ (neither (new_code_cause RepeatedPool (codes_of before) (field_of row 0)) _ h).1).0) records both.0 in
     let ranged_all : list_any has_quota_out (pools_of rule rows).pools ≡ false = none_of has_quota_out (pools_of rule rows).pools (all_mapped (pool_of rule (codes_of rows)) (λ pool. not (has_quota_out pool)) rows quotas) in
     let none = none_first has_quota_out (pools_of rule rows).pools ranged_all in
+    let nested = nested_right (pools_of rule rows).pools (rows_linked rule rows) passes.1 in
     record {
       each = length_map (λ row. field_of row 0) rows ∙ sym (length_map (pool_of rule (codes_of rows)) rows);
       few = rw (length_map (pool_of rule (codes_of rows)) rows) few;
       coded = all_mapped (λ row. field_of row 0) is_code rows coded;
       quotas = rw none refl;
-      nesting = nested_right (pools_of rule rows).pools (rows_linked rule rows) passes.1;
+      nesting = nested.0;
+      alone = stand_alone rule (codes_of rows) rows (pools_alone (pools_of rule rows).pools) apart nested.1;
     }
 
 any_first : {A : Type 0} (p : A → Bool) (xs : List A) → list_any p xs ≡ true → position_or_len p xs < length xs

@@ -10,6 +10,7 @@ use Rattle.sl_types.specs.declared.kinds.TheConstants.{MAX_POOLS, MAX_QUOTA}
 use Rattle.sl_types.specs.Market.{Market, pool_numbers, parent_of}
 use Rattle.sl_types.specs.Valid as Valid
 use Rattle.sl_types.specs.Rules.{is_in_ring, is_too_deep, is_badly_nested}
+use Rattle.sl_types.specs.Stage.{is_in_tree}
 use Rattle.sl_codes.specs.declared.faults.Cause.{Cause}
 use Rattle.sl_codes.specs.declared.faults.Cause.TheVariants.{RepeatedPool, BadNumber, BadQuota, BadKind, UnknownParent, ParentCycle, TooDeep, KindDiffers}
 use Rattle.sl_codes.specs.declared.faults.Table.TheVariants.{Pools}
@@ -113,10 +114,11 @@ abbrev pub first_pool_fault : Rule → List Record → Option TableFault
 first_pool_fault rule records = option_or (first_fault pool_form records) (parents_fault rule (drop 1 records))
 
 -- what a pool table that was read keeps: as many codes as pools, each of them a code, and pools that break no rule of an
--- instance
+-- instance and stand alone
 pub record IsPoolList (list : PoolList) : Type 0 where
   pub each : length list.codes ≡ length list.pools
   pub few : length list.pools ≤ MAX_POOLS
   pub coded : list_all is_code list.codes ≡ true
   pub quotas : Valid.quota_fault (pools_alone list.pools) ≡ None
   pub nesting : Valid.nesting_fault (pools_alone list.pools) ≡ None
+  pub alone : position is_in_tree list.pools ≡ None

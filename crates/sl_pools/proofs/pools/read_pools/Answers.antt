@@ -26,7 +26,7 @@ invariant_of-result c =
     (with_items_is draft.pools c.whole_file_fault.new.pools size
     ∙ linked_of c.args.rule (rows_of c.args.bytes.now) draft.codes (fields_of draft.parents) draft.pools.items c.whole_file_fault.new.pools read.codes read.parents read.pools pools) in
     let right = whole_file c.args.rule records draft.codes (fields_of draft.parents) draft.pools.items None read.right read.codes read.parents read.pools fault in
-    subst IsPoolList (sym list) (pool_list c.args.rule records right read.few)
+    subst IsPoolList (sym list) (pool_list c.args.rule records c.requires.rule right read.few)
 
 pub returns-in-None-clause-right : goal.returns-in-None-clause-right
 returns-in-None-clause-right c =

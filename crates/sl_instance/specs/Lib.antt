@@ -1,0 +1,3 @@
+pub mod NamedMarket
+pub mod Assembly
+pub mod Lists
