@@ -1,12 +1,15 @@
 #!/usr/bin/env python3
-"""Writes the three tables of a round in the plain form, for runs of any size. It is no test.
+"""Writes the three tables of a round as a spreadsheet saves them, for runs of any size. It is no test.
 
     make_tables.py POOLS PROGRAMMES APPLICANTS CHOICES FOLDER [SEED]
 
-FOLDER gets pools.csv, programmes.csv and applications.csv. The same words write the same bytes.
-Codes are P1, P2, ..; G1, G2, ..; A1, A2, ... Each applicant has CHOICES choices of different programmes.
+FOLDER gets pools.csv, programmes.csv and applications.csv. The same words write the same bytes. The files
+begin with a byte order mark and have CRLF line ends; codes have accents, and every third pool has a comma
+and double quotes in its name; the rows of applications are in no order. Each applicant has CHOICES choices
+of different programmes.
 """
 
+import csv
 import os
 import sys
 
@@ -30,51 +33,60 @@ class Numbers:
             chosen[self.below(bound)] = True
         return list(chosen)
 
+    def shuffle(self, rows):
+        for last in range(len(rows) - 1, 0, -1):
+            other = self.below(last + 1)
+            rows[last], rows[other] = rows[other], rows[last]
+
 
 def write(folder, name, header, rows):
-    with open(os.path.join(folder, name), "w", encoding="ascii", newline="\n") as file:
-        file.write(header + "\n")
-        for row in rows:
-            file.write(",".join(str(field) for field in row) + "\n")
+    with open(os.path.join(folder, name), "w", encoding="utf-8-sig", newline="") as file:
+        writer = csv.writer(file)  # CRLF, and quotes where they are needed
+        writer.writerow(header.split(","))
+        writer.writerows(rows)
+
+
+def pool_code(pool):
+    if pool % 3 == 0:
+        return f'Kar "{pool + 1}", nappali'
+    return f"Ö-{pool + 1}"
 
 
 def pool_rows(numbers, pools, applicants):
     # Places for about two thirds of the applicants, so that most pools are asked for by too many.
     greatest = max(1, 4 * applicants // (3 * pools))
     for pool in range(pools):
-        yield f"P{pool + 1}", 1 + numbers.below(greatest), "", "score"
+        yield pool_code(pool), 1 + numbers.below(greatest), "", "score"
 
 
 def programme_rows(pools, programmes):
     for programme in range(programmes):
-        yield f"G{programme + 1}", f"P{programme % pools + 1}"
+        yield f"Szak-{programme + 1}", pool_code(programme % pools)
 
 
 def application_rows(numbers, programmes, applicants, choices):
     for applicant in range(applicants):
         for place, programme in enumerate(numbers.different(choices, programmes)):
-            yield f"A{applicant + 1}", place + 1, f"G{programme + 1}", numbers.below(TOP_SCORE + 1)
+            yield f"Á-{applicant + 1}", place + 1, f"Szak-{programme + 1}", numbers.below(TOP_SCORE + 1)
 
 
 def main(words):
     if len(words) not in (5, 6):
         sys.exit(__doc__)
     pools, programmes, applicants, choices = (int(word) for word in words[:4])
+    folder = words[4]
+    seed = int(words[5]) if len(words) == 6 else 1
     if min(pools, programmes, applicants, choices) < 1:
         sys.exit("each number is at least 1")
     if choices > min(programmes, LONGEST_LIST):
         sys.exit(f"a list has at most {LONGEST_LIST} choices, and each programme once")
-    folder = words[4]
-    numbers = Numbers(int(words[5]) if len(words) == 6 else 1)
     os.makedirs(folder, exist_ok=True)
+    numbers = Numbers(seed)
     write(folder, "pools.csv", "pool,quota,parent,kind", pool_rows(numbers, pools, applicants))
     write(folder, "programmes.csv", "programme,pool", programme_rows(pools, programmes))
-    write(
-        folder,
-        "applications.csv",
-        "applicant,place,programme,score",
-        application_rows(numbers, programmes, applicants, choices),
-    )
+    rows = list(application_rows(numbers, programmes, applicants, choices))
+    numbers.shuffle(rows)
+    write(folder, "applications.csv", "applicant,place,programme,score", rows)
 
 
 if __name__ == "__main__":

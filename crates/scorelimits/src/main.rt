@@ -4,10 +4,11 @@
 ghost use Rattle.std.specs.Prelude.{◌≡◌, ◌↔◌, map, string_bytes};
 ghost use Rattle.sl_run.specs.Words.{AreNoCommand};
 
-use sl_io::{FileShelf, OutSink};
+use sl_io::{FileShelf, OutSink, Sink};
 use sl_run::run;
 use std::process::ExitCode;
-use std::rt::Env;
+use std::rt::{Env, Files};
+use std::thread::Threads;
 use std::{env, io};
 
 // The words after the program's name.
@@ -19,14 +20,17 @@ fn words_after_name<R: Env + AllocGlobal>(rt: &R) -> io::Result<Vec<String>> {
     Ok(words)
 }
 
-// Carries out a command over the files and the standard streams. Answers the status.
-fn carry_out(rt: &HostRuntime, words: &[String]) -> u8
+// Carries out a command over the files. Answers the status.
+fn carry_out<R: Files + AllocGlobal + Threads + Sync, O: Sink, E: Sink>(
+    rt: &R,
+    words: &[String],
+    out: &mut O,
+    err: &mut E,
+) -> u8
     ensures { (result ≡ 2) ↔ AreNoCommand (map (λ w. string_bytes w) words.now) }
 {
     let mut shelf = FileShelf::new(rt);
-    let mut out = OutSink::new(rt.stdout());
-    let mut err = OutSink::new(rt.stderr());
-    run(rt.alloc(), words, &mut shelf, &mut out, &mut err)
+    run(rt, rt.alloc(), words, &mut shelf, out, err)
 }
 
 fn main(rt: HostRuntime) -> ExitCode {
@@ -36,5 +40,7 @@ fn main(rt: HostRuntime) -> ExitCode {
         // A word that isn't text is no word of a command.
         Err(_) => Vec::new(rt.alloc()),
     };
-    ExitCode::from(carry_out(&rt, &words))
+    let mut out = OutSink::new(rt.stdout());
+    let mut err = OutSink::new(rt.stderr());
+    ExitCode::from(carry_out(&rt, &words, &mut out, &mut err))
 }

@@ -1,13 +1,13 @@
 -- Lists that agree index by index.
 use Rattle.std.proofs.Common.{◌≡◌, ◌<◌, ◌∙◌, ℕ, zero, suc, List, [], ◌∷◌, length, map, refl, ap, arith, slice_index}
 use Rattle.std.proofs.lemmas.List.{get_or-map}
-use Rattle.std.proofs.lemmas.List.FromFn.{get_or-map-range_with_len, length-range_with_len}
+use Rattle.std.proofs.lemmas.List.FromFn.{get_or-map-range_with_len, length-range_with_len, length-map-range_with_len}
 use Rattle.std.specs.List.{position_or_len}
 use Rattle.sl_types.specs.declared.kinds.Entry.{Entry}
 use Rattle.sl_types.specs.Market.{Market, list_of}
-use Rattle.sl_laws.specs.Limits.{Limits, is_eligible, count_in, demand}
-use Rattle.sl_laws.proofs.Slices.{own_number}
+use Rattle.sl_laws.specs.Limits.{Limits, is_eligible, count_in}
 use Rattle.sl_laws.specs.Outcome.{admitted_indexes, counts_in}
+use Rattle.sl_admit.specs.Counting.{chosen_in, counts_of}
 
 length_map : {A : Type 0} (f : A → ℕ) (xs : List A) → length (map f xs) ≡ length xs
 length_map f [] = refl
@@ -32,9 +32,9 @@ admitted_index_at market t a within = get_or-map (λ (choices : List Entry). pos
 pub count_at : (market : Market) (t : Limits) (P : ℕ) → P < length market.pools → slice_index (counts_in market t) P ≡ count_in market t P
 count_at market t P within = get_or-map-range_with_len (count_in market t) 0 (length market.pools) P P 0 within (omega arith)
 
--- the demand at the limit itself is the count
-pub own_count : (market : Market) (t : Limits) (P : ℕ) → demand market t P (t P) ≡ count_in market t P
-own_count market t P = ap (λ (u : Limits). count_in market u P) (own_number t P)
+-- counts are one for each pool
+pub counts_size : (market : Market) (admitted counts : List ℕ) → counts ≡ counts_of market admitted → length counts ≡ length market.pools
+counts_size market admitted counts is = ap length is ∙ length-map-range_with_len (chosen_in market admitted) 0 (length market.pools)
 
 -- the indexes of all applicants
 pub all_admissions : (market : Market) (t : Limits) (admitted : List ℕ) → length admitted ≡ length market.lists

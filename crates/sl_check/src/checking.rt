@@ -1,24 +1,28 @@
 ghost use Rattle.std.specs.Prelude.{◌≡◌, ◌<◌, ◌^◌, [], length, slice_index, All, MatchOption, IfOk, Ok};
 ghost use Rattle.sl_laws.specs.Stable.{IsLeastStable};
+ghost use Rattle.sl_contend.specs.Contention.{contention_of};
+ghost use Rattle.sl_contend.specs.Rule.{CoversAll};
 ghost use Rattle.sl_proof.specs.Progress.{HasReplayed};
 ghost use Rattle.sl_check.specs.Verdict.{IsFirstUnjust, IsVerdict};
 ghost use Rattle.sl_check.specs.declared.verdict.Verdict.TheVariants.{Yes};
 
 use crate::{Verdict, lowest};
+use sl_contend::{Contenders, RaiseRule};
 use sl_proof::Replay;
 use sl_types::{Instance, OutOfMemory, Raise};
 use std::alloc::Global;
 
 // Adds each raise. Tells the number, counted from 1, of the first that doesn't replay.
-fn first_unjust(replay: &mut Replay, raises: &[Raise]) -> Option<u32>
+fn first_unjust<R: RaiseRule>(rule: &R, replay: &mut Replay, raises: &[Raise]) -> Option<u32>
     requires begun { HasReplayed replay.old [] }
+    requires covered { CoversAll R.covers rule.now replay.old.instance }
     requires within { All (λ r. r.pool.0 < length replay.old.instance.pools) raises.now }
     requires few { length raises.now < 2 ^ 32 }
     ensures first { MatchOption result (HasReplayed replay.new raises.now) (λ k. IsFirstUnjust replay.old.instance raises.now k) }
     ensures instance { replay.new.instance ≡ replay.old.instance }
 {
     for (index, raise) in raises.iter().enumerate() {
-        if replay.add(*raise).is_err() {
+        if replay.add(rule, *raise).is_err() {
             return Some(index as u32 + 1);
         }
     }
@@ -27,16 +31,21 @@ fn first_unjust(replay: &mut Replay, raises: &[Raise]) -> Option<u32>
 
 /// The verdict on a published outcome: its first fault, or Yes. `raises` are the raises in order, from zeros
 /// on; `limits` has each pool's limit, in points; `admitted` has for each applicant the index of the admitted
-/// choice, or the length of their list; `counts` has how many each pool admits. It takes no memory but for a
-/// limit of each pool. That a list of raises is a certificate of limits is this project's own.
-pub fn check(
+/// choice, or the length of their list; `counts` has how many each pool admits. The rule covers every pool,
+/// and the contenders were made for the instance. That a list of raises is a certificate of limits is this
+/// project's own.
+pub fn check<R: RaiseRule>(
     alloc: Global,
+    rule: &R,
     instance: &Instance,
+    contenders: &Contenders,
     raises: &[Raise],
     limits: &[u32],
     admitted: &[u32],
     counts: &[u32],
 ) -> Result<Verdict, OutOfMemory>
+    requires covered { CoversAll R.covers rule.now instance.now }
+    requires contenders { contenders.now ≡ contention_of instance.now }
     requires within { All (λ r. r.pool.0 < length instance.now.pools) raises.now }
     requires few { length raises.now < 2 ^ 32 }
     requires each_limit { length limits.now ≡ length instance.now.pools }
@@ -46,11 +55,11 @@ pub fn check(
     ensures least { result ≡ Ok Yes → IsLeastStable instance.now (slice_index limits.now) }
 {
     let _pools = instance.pools();
-    let mut replay = Replay::new(alloc, instance)?;
-    if let Some(number) = first_unjust(&mut replay, raises) {
+    let mut replay = Replay::new(alloc, instance, contenders)?;
+    if let Some(number) = first_unjust(rule, &mut replay, raises) {
         return Ok(Verdict::RaiseUnjust(number));
     }
-    if let Some(pool) = lowest::unsettled(instance, &mut replay) {
+    if let Some(pool) = lowest::unsettled(rule, instance, &mut replay) {
         return Ok(Verdict::Unsettled(pool));
     }
     if let Some(pool) = lowest::wrong_limit(instance, replay.limits(), limits) {
@@ -59,7 +68,8 @@ pub fn check(
     if let Some(app) = lowest::wrong_admission(instance, limits, admitted) {
         return Ok(Verdict::AdmissionWrong(app));
     }
-    if let Some(pool) = lowest::wrong_count(instance, limits, counts) {
+    let miscounted = lowest::wrong_count(alloc, instance, admitted, counts)?;
+    if let Some(pool) = miscounted {
         return Ok(Verdict::CountWrong(pool));
     }
     Ok(Verdict::Yes)

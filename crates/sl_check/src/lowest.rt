@@ -1,22 +1,27 @@
 // The lowest pool or applicant of each kind of fault.
-ghost use Rattle.std.specs.Prelude.{◌≡◌, ◌<◌, ℕ, length, slice_index, MatchOption};
-ghost use Rattle.sl_laws.specs.Limits.{count_in};
+ghost use Rattle.std.specs.Prelude.{◌≡◌, ◌<◌, ℕ, length, slice_index, MatchOption, IfOk};
+ghost use Rattle.sl_laws.specs.Limits.{Limits};
 ghost use Rattle.sl_laws.specs.Stable.{IsSettled};
+ghost use Rattle.sl_laws.specs.Outcome.{admitted_indexes};
+ghost use Rattle.sl_contend.specs.Rule.{CoversAll};
 ghost use Rattle.sl_check.specs.Verdict.{IsLowestWithout, IsLimit, IsAdmission, IsCount, AreSettled};
 
-use sl_laws::{plain_admit, plain_count, plain_eff};
+use sl_contend::RaiseRule;
+use sl_laws::{plain_admit, plain_eff};
 use sl_proof::Replay;
-use sl_types::{AppId, Instance, PoolId};
+use sl_types::{AppId, Instance, OutOfMemory, PoolId};
+use std::alloc::Global;
 
 /// The lowest pool that isn't settled at what a replay reaches.
-pub fn unsettled(instance: &Instance, replay: &mut Replay) -> Option<PoolId>
-    requires { replay.old.instance ≡ instance.now }
+pub fn unsettled<R: RaiseRule>(rule: &R, instance: &Instance, replay: &mut Replay) -> Option<PoolId>
+    requires instance { replay.old.instance ≡ instance.now }
+    requires covered { CoversAll R.covers rule.now instance.now }
     ensures lowest { MatchOption result (AreSettled instance.now (slice_index replay.old.limits)) (λ P. IsLowestWithout (length instance.now.pools) (IsSettled instance.now (slice_index replay.old.limits)) P.0) }
     ensures same { replay.new ≡ replay.old }
 {
     for number in 0..instance.pools() {
         let pool = PoolId(number as u32);
-        if !replay.settled(pool) {
+        if !replay.settled(rule, pool) {
             return Some(pool);
         }
     }
@@ -54,27 +59,22 @@ pub fn wrong_admission(instance: &Instance, limits: &[u32], admitted: &[u32]) ->
     None
 }
 
-// How many a pool admits.
-fn count_in(instance: &Instance, limits: &[u32], pool: PoolId) -> u32
-    requires sizes { length limits.now ≡ length instance.now.pools }
-    requires within { pool.0 < length instance.now.pools }
-    ensures { result ≡ count_in instance.now (slice_index limits.now) pool.0 }
-{
-    plain_count(instance, limits, pool, limits[pool.0 as usize])
-}
-
 /// The lowest pool whose count isn't that of the admissions.
-#[tactic(auto, using(crate::proofs::Whole::count_at))]
-pub fn wrong_count(instance: &Instance, limits: &[u32], counts: &[u32]) -> Option<PoolId>
-    requires sizes { length limits.now ≡ length instance.now.pools }
+pub fn wrong_count(
+    alloc: Global,
+    instance: &Instance,
+    admitted: &[u32],
+    counts: &[u32],
+) -> Result<Option<PoolId>, OutOfMemory>
+    requires admissions { length admitted.now ≡ length instance.now.lists }
     requires each { length counts.now ≡ length instance.now.pools }
-    ensures { MatchOption result ((P : ℕ) → P < length instance.now.pools → IsCount instance.now (slice_index limits.now) counts.now P) (λ P. IsLowestWithout (length instance.now.pools) (IsCount instance.now (slice_index limits.now) counts.now) P.0) }
+    ensures { IfOk result (λ wrong. (t : Limits) → admitted.now ≡ admitted_indexes instance.now t → MatchOption wrong ((P : ℕ) → P < length instance.now.pools → IsCount instance.now t counts.now P) (λ P. IsLowestWithout (length instance.now.pools) (IsCount instance.now t counts.now) P.0)) }
 {
+    let made = sl_admit::counts(alloc, instance, admitted)?;
     for number in 0..instance.pools() {
-        let pool = PoolId(number as u32);
-        if counts[number] != count_in(instance, limits, pool) {
-            return Some(pool);
+        if counts[number] != made[number] {
+            return Ok(Some(PoolId(number as u32)));
         }
     }
-    None
+    Ok(None)
 }

@@ -1,4 +1,10 @@
+ghost use Rattle.std.specs.Prelude.{◌≡◌, ◌<◌, ℕ, length, IsTrue};
+ghost use Rattle.sl_types.specs.Market.{rule_of};
+ghost use Rattle.sl_types.specs.declared.kinds.Rule.TheVariants.{H};
+
 use super::*;
+use sl_contend::Contenders;
+use sl_flat::HRule;
 use sl_types::{AppId, Entry, Instance, Pool, PoolId, ProgId, Raise, Rule};
 use std::alloc::Global;
 use std::process::Abort;
@@ -52,6 +58,18 @@ struct Outcome<'a> {
     counts: [u32; 2],
 }
 
+// Whether each pool is of rule H.
+fn are_h(instance: &Instance) -> bool
+    ensures { IsTrue result → (P : ℕ) → P < length instance.now.pools → rule_of instance.now P ≡ H }
+{
+    for number in 0..instance.pools() {
+        if instance.pool(PoolId(number as u32)).rule != Rule::H {
+            return false;
+        }
+    }
+    true
+}
+
 // Checks an outcome of two pools.
 fn checks(
     rt: &(impl Abort + AllocGlobal),
@@ -63,9 +81,13 @@ fn checks(
     assert!(rt; outcome.raises.iter().all(|raise| raise.pool.0 < 2));
     assert!(rt; outcome.raises.len() < 10);
     assert_eq!(rt; outcome.admitted.len(), instance.applicants());
+    assert!(rt; are_h(instance));
+    let contenders = Contenders::new(rt.alloc(), instance)?;
     let found = check(
         rt.alloc(),
+        &HRule,
         instance,
+        &contenders,
         outcome.raises,
         &outcome.limits,
         outcome.admitted,

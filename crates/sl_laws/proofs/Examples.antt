@@ -7,11 +7,12 @@ use Rattle.sl_types.specs.declared.kinds.Raise.{Raise}
 use Rattle.sl_types.specs.declared.kinds.Rule.{Rule}
 use Rattle.sl_types.specs.declared.kinds.Rule.TheVariants.{H, L, Merit}
 use Rattle.sl_types.specs.declared.kinds.TheConstants.{MAX_SCORE}
-use Rattle.sl_types.specs.Market.{Market, climb, chain_of}
+use Rattle.sl_types.specs.Market.{Market, pool_at, climb, chain_of}
 use Rattle.sl_types.specs.Valid.{IsValid}
 use Rattle.sl_laws.specs.Limits.{Limits, effective_limit, count_in, capped_demand}
 use Rattle.sl_laws.specs.Stable.{IsStable, IsLeastStable, IsJustified, IsSettled, MeetsL}
 use Rattle.sl_laws.specs.Raises.{Proves, zeros, limits_after}
+use Rattle.sl_laws.specs.Laws.{IsRelaxedPool, IsRelaxed}
 
 abbrev score_pool : Rule → ℕ → Pool
 score_pool rule q = record { quota = q; parent = None; rule = rule }
@@ -119,6 +120,13 @@ tie_unstable_l : MeetsL (crossing_tie L) (limits (11 ∷ [])) 0 → ⊥
 unfolding chain_of
 tie_unstable_l (fits, inl z) = absurd (omega (arith, z))
 tie_unstable_l (fits, inr j) = absurd (omega (arith, j.1))
+
+-- by rule L it is the instance by rule H relaxed, and its limit is 10 in place of 11
+tie_relaxed : IsRelaxed (crossing_tie H) (crossing_tie L)
+tie_relaxed = record { progs = refl; lists = refl; each = refl; pools = relaxed } where
+  relaxed : (P : ℕ) → P < 1 → IsRelaxedPool (pool_at (crossing_tie H) P) (pool_at (crossing_tie L) P)
+  relaxed zero h = record { quota = refl; parent = refl; rule = inr (refl, refl) }
+  relaxed (suc P) h = absurd (omega (arith, h))
 
 -- swapped admissions: stable, and not the least
 abbrev swapped : Market

@@ -23,6 +23,8 @@ pub mod Alike
 pub mod Best
 pub mod Feeding
 pub mod Earlier
+pub mod Settling
+pub mod Relaxed
 -- The loops of the code.
 pub mod Steps
 -- Examples.

@@ -1,10 +1,12 @@
--- The laws of limits, as statements about one instance. Each is proved of every valid instance.
+-- The laws of limits, as statements about one instance, or two of which one is the other relaxed. Each is proved of every
+-- valid instance.
 use Rattle.std.specs.Prelude.{◌≡◌, ◌≢◌, ◌⊎◌, ◌↔◌, ℕ, ◌+◌, ◌<◌, ◌≤◌, true, List, length}
 use Rattle.std.specs.List.{position_or_len}
 use Rattle.sl_types.specs.declared.kinds.Raise.{Raise}
-use Rattle.sl_types.specs.declared.kinds.Rule.TheVariants.{Merit}
+use Rattle.sl_types.specs.declared.kinds.Pool.{Pool}
+use Rattle.sl_types.specs.declared.kinds.Rule.TheVariants.{H, L, Merit}
 use Rattle.sl_types.specs.declared.kinds.TheConstants.{MAX_SCORE}
-use Rattle.sl_types.specs.Market.{Market, rule_of, lies_in, list_of}
+use Rattle.sl_types.specs.Market.{Market, pool_at, rule_of, lies_in, list_of}
 use Rattle.sl_laws.specs.Limits.{Limits, effective_limit, is_eligible, demand}
 use Rattle.sl_laws.specs.Stable.{IsStable, IsLeastStable, IsJustified, IsSettled, Feeds, HasInOrder}
 use Rattle.sl_laws.specs.Raises.{IsSound, Replays, Proves, limits_after, without_void}
@@ -84,3 +86,20 @@ FeedsSays market = (Q P : ℕ) → Feeds market Q P ↔ ((Q ≢ P) × ((a : ℕ)
 abbrev pub NoneEarlier : Market → Type 0
 NoneEarlier market = (l m : Limits) → IsLeastStable market l → IsStable market m → (a : ℕ) → a < length market.lists
     → position_or_len (is_eligible market l) (list_of market a) ≤ position_or_len (is_eligible market m) (list_of market a)
+
+-- a pool with the same quota and parent, and with the same rule, or with L in place of H
+pub record IsRelaxedPool (pool relaxed : Pool) : Type 0 where
+  pub quota : relaxed.quota ≡ pool.quota
+  pub parent : relaxed.parent ≡ pool.parent
+  pub rule : (relaxed.rule ≡ pool.rule) ⊎ ((pool.rule ≡ H) × (relaxed.rule ≡ L))
+
+-- an instance that is equal but for pools of rule H that have rule L instead
+pub record IsRelaxed (market relaxed : Market) : Type 0 where
+  pub progs : relaxed.progs ≡ market.progs
+  pub lists : relaxed.lists ≡ market.lists
+  pub each : length relaxed.pools ≡ length market.pools
+  pub pools : (P : ℕ) → P < length market.pools → IsRelaxedPool (pool_at market P) (pool_at relaxed P)
+
+-- limits under L are at most those under H
+abbrev pub UnderLIsLower : Market → Market → Type 0
+UnderLIsLower market relaxed = IsRelaxed market relaxed → (l m : Limits) → IsLeastStable market l → IsLeastStable relaxed m → (P : ℕ) → P < length market.pools → m P ≤ l P

@@ -10,8 +10,9 @@ pub use plain::{
 };
 pub use theorems::{
     best_decides, deciding_is_justified, demand_is_monotone, drops_void, feeds_says, is_local,
-    justified_below, justified_has_top, none_earlier, passes_no_stable_limit, proves_the_least,
-    settled_alike, sound_passes_none, stays_justified, stays_settled,
+    justified_below, justified_has_top, limits_under_l_are_lower, none_earlier,
+    passes_no_stable_limit, proves_the_least, settled_alike, sound_passes_none, stays_justified,
+    stays_settled,
 };
 
 #[cfg(test)]

@@ -1,6 +1,6 @@
 ghost use Rattle.sl_types.specs.Market.{Market};
 ghost use Rattle.sl_types.specs.Valid.{IsValid};
-ghost use Rattle.sl_laws.specs.Laws.{DemandIsMonotone, JustifiedBelow, JustifiedHasTop, PassesNoStableLimit, StaysJustified, DropsVoid, DecidingIsJustified, IsLocal, StaysSettled, SoundPassesNone, ProvesTheLeast, BestDecides, SettledAlike, FeedsSays, NoneEarlier};
+ghost use Rattle.sl_laws.specs.Laws.{DemandIsMonotone, JustifiedBelow, JustifiedHasTop, PassesNoStableLimit, StaysJustified, DropsVoid, DecidingIsJustified, IsLocal, StaysSettled, SoundPassesNone, ProvesTheLeast, BestDecides, SettledAlike, FeedsSays, NoneEarlier, UnderLIsLower};
 
 /// The demand for a score pool doesn't rise with its own limit, and doesn't fall where other limits rise.
 pub fn demand_is_monotone()
@@ -75,4 +75,9 @@ pub fn feeds_says()
 /// No stable limits admit any applicant earlier on their list than the least do.
 pub fn none_earlier()
     ensures { (market : Market) → IsValid market → NoneEarlier market }
+{}
+
+/// Where pools of rule H have rule L instead, the least stable limits are at most what they were.
+pub fn limits_under_l_are_lower()
+    ensures { (market relaxed : Market) → IsValid market → IsValid relaxed → UnderLIsLower market relaxed }
 {}

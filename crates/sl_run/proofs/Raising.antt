@@ -1,41 +1,56 @@
 -- Raises one by one: the greatest of a pool, and what a list of raises reaches with one more.
-use Rattle.std.proofs.Common.{◌≡◌, ◌<◌, ◌≤◌, ◌+◌, ◌-◌, ◌∙◌, ℕ, List, [], ◌∷◌, ◌++◌, length, set, max, refl, sym, ap, arith, subst, zero, suc, inl, inr, slice_index, length-set, replicate}
-use Rattle.std.proofs.lemmas.Bool.{cases_lt}
+use Rattle.std.proofs.Common.{◌≡◌, ◌<◌, ◌≤◌, ◌+◌, ◌-◌, ◌∙◌, ℕ, List, [], ◌∷◌, ◌++◌, length, set, max, refl, sym, ap, arith, subst, zero, suc, inl, inr, slice_index, length-set, replicate, position, None, true≢false}
+use Rattle.std.proofs.lemmas.Bool.{cases_lt, and_parts, eq-eqb}
+use Rattle.std.proofs.lemmas.Bool.Decides.{eqb_tells}
+use Rattle.std.specs.List.{list_any}
 use Rattle.std.proofs.lemmas.List.{length-replicate}
 use Rattle.std.proofs.lemmas.List.Sums.{sum_by-set}
 use Rattle.sl_types.specs.declared.kinds.TheConstants.{MAX_SCORE}
 use Rattle.sl_types.specs.declared.kinds.Raise.{Raise}
-use Rattle.sl_types.specs.Market.{Market}
+use Rattle.sl_types.specs.Market.{Market, no_pool, pool_at}
+use Rattle.std.specs.Prelude.{◌≢◌, Bool, true, false, ◌&&◌, ◌||◌, not, nat_eq, is_some}
+use Rattle.sl_types.proofs.Lists.{none_fails}
+use Rattle.sl_types.specs.Rules.{is_merit}
+use Rattle.sl_types.specs.Stage.{is_in_tree}
 use Rattle.sl_types.specs.WellFormed.{IsWellFormed}
 use Rattle.sl_laws.specs.Limits.{Limits, with_limit, effective_limit}
-use Rattle.sl_laws.specs.Stable.{IsJustified, IsSettled}
-use Rattle.sl_laws.specs.Raises.{after_raise, after_raises, limits_after, zeros, EachRaise, Proves}
-use Rattle.sl_laws.proofs.Nest.{le_limit, lies_own}
-use Rattle.sl_laws.proofs.Score.{justified_below}
+use Rattle.sl_laws.specs.Stable.{IsJustified, IsSettled, Feeds, feeds, leads}
+use Rattle.sl_laws.proofs.Local.{is_local, stays_settled}
+use Rattle.sl_laws.specs.Raises.{limits_after, zeros, Proves}
+use Rattle.sl_laws.proofs.Nest.{le_limit, lies_own, with_else}
 use Rattle.sl_laws.proofs.Slices.{set_replaces, same_limits}
 use Rattle.sl_laws.proofs.Top.{justified_has_top}
+use Rattle.sl_contend.specs.Rule.{IsBest}
+use Rattle.sl_proof.proofs.Adding.{reached_push, each_push}
 use Rattle.sl_check.specs.Verdict.{AreSettled}
-use Rattle.sl_run.specs.Clearing.{IsGreatestRaise, IsUnderWay, room}
+use Rattle.sl_run.specs.Clearing.{AreFresh, AreScorePools, is_stale, IsGreatestRaise, IsUnderWay, room}
 
--- each justified raise is below two more than the greatest score
-pub below_all : (market : Market) → IsWellFormed market → (t : Limits) (P : ℕ) → P < length market.pools → (y : ℕ) → IsJustified market t P y → y < MAX_SCORE + 2
-below_all market ok t P within y j = let top = justified_has_top market ok t P y within j in omega (arith, top)
+-- the best raise of a pool that is above its effective limit is its greatest
+pub greatest : (market : Market) (t : Limits) (P best : ℕ) → IsBest market t P best → effective_limit market t P < best → IsGreatestRaise market t P best
+greatest market t P best is above = record {
+  above = above;
+  justified = is.justified (omega (arith, above));
+  greatest = λ y just. elim (cases_lt y 1) [
+    | inl low ↦ omega (arith, low, above)
+    | inr high ↦ is.greatest y high just
+  ];
+}
 
--- each justified raise is below one that isn't
-pub below_failed : (market : Market) → IsWellFormed market → (t : Limits) (P x : ℕ) → (IsJustified market t P x → ⊥) → (y : ℕ) → IsJustified market t P y → y < x
-below_failed market ok t P x failed y j = elim (cases_lt y x) [
-  | inl low ↦ low
-  | inr high ↦ absurd (failed (justified_below market ok t P y x high j))
-]
+-- a pool whose best raise isn't above its effective limit is settled
+pub settled_by : (market : Market) (t : Limits) (P best : ℕ) → IsBest market t P best → best ≤ effective_limit market t P → IsSettled market t P
+settled_by market t P best is low just = let high = is.greatest (effective_limit market t P + 1) (omega arith) just in omega (arith, low, high)
 
--- one raise more
-reached_push : (t : Limits) (c : List Raise) (r : Raise) → after_raises t (c ++ r ∷ []) ≡ after_raise (after_raises t c) r
-reached_push t [] r = refl
-reached_push t (s ∷ c) r = reached_push (after_raise t s) c r
-
-each_push : (market : Market) (F : Limits → Raise → Type 0) (t : Limits) (c : List Raise) (r : Raise) → EachRaise market F t c → r.pool.0 < length market.pools → F (after_raises t c) r → EachRaise market F t (c ++ r ∷ [])
-each_push market F t [] r h within f = (within, f, tt)
-each_push market F t (s ∷ c) r h within f = (h.0, h.1, each_push market F (after_raise t s) c r h.2 within f)
+-- pools of which none is in a tree are score pools
+pub alone_is_score : (market : Market) → position is_in_tree market.pools ≡ None → AreScorePools market
+alone_is_score market none P within merit =
+    let pool = pool_at market P in
+    let no : (is_some pool.parent || is_merit pool.rule) ≡ false = none_fails is_in_tree market.pools none P no_pool within in
+    let is_one : is_merit pool.rule ≡ true = rw merit refl in
+    true≢false (sym is_one ∙ second (is_some pool.parent) (is_merit pool.rule) no)
+  where
+    second : (a b : Bool) → (a || b) ≡ false → b ≡ false
+    second false b h = h
+    second true b h = absurd (true≢false h)
 
 -- the greatest raise of a pool goes on from where the raises were
 pub one_raise_more : (market : Market) (limits new_limits : List ℕ) (raises new_raises : List Raise) (r : Raise) → IsUnderWay market limits raises → r.pool.0 < length market.pools
@@ -83,3 +98,46 @@ at_zeros market limits raises n le ne re = rw (le, re) (record {
     all_zero zero P = refl
     all_zero (suc n) zero = refl
     all_zero (suc n) (suc P) = all_zero n P
+
+-- no pool feeds itself
+not_itself : (market : Market) (Q P : ℕ) → Feeds market Q P → Q ≢ P
+not_itself market Q P fed e =
+    let both : (not (nat_eq P P) && list_any (leads market P P) market.lists) ≡ true = subst (λ (R : ℕ). feeds market R P ≡ true) e fed in
+    let parts = and_parts (not (nat_eq P P)) (list_any (leads market P P) market.lists) both in
+    let same : nat_eq P P ≡ true = eq-eqb P P refl in
+    let no : not (nat_eq P P) ≡ false = rw same refl in
+    true≢false (sym parts.0 ∙ no)
+
+-- a pool that was raised to its greatest justified raise is settled
+pub settled_after : (market : Market) → IsWellFormed market → (limits new_limits : List ℕ) (P x : ℕ) → P < length market.pools → length limits ≡ length market.pools → IsGreatestRaise market (slice_index limits) P x
+    → new_limits ≡ set limits P x → IsSettled market (slice_index new_limits) P
+settled_after market ok limits new_limits P x within sizes best le just =
+    let t = slice_index limits in
+    let u = slice_index new_limits in
+    let inside : P < length limits = omega (arith, within, sizes) in
+    let at = λ (Q : ℕ). ap (λ (l : List ℕ). slice_index l Q) le ∙ set_replaces limits P x inside Q in
+    let before = is_local market ok u t P (effective_limit market u P + 1) (λ Q fed. at Q ∙ with_else t P x Q (not_itself market Q P fed)) just in
+    let low = best.greatest (effective_limit market u P + 1) before in
+    let own : u P ≡ x = at P ∙ own_replaced t P x in
+    let high = le_limit market u P P (lies_own market P) in
+    omega (arith, low, own, high)
+  where
+    own_replaced : (t : Limits) (P x : ℕ) → with_limit t P x P ≡ x
+    own_replaced t P x = rw (eq-eqb P P refl) refl
+
+-- the numbers of the other pools stay
+pub others_stay : (limits new_limits : List ℕ) (P x Q : ℕ) → P < length limits → new_limits ≡ set limits P x → Q ≢ P → slice_index new_limits Q ≡ slice_index limits Q
+others_stay limits new_limits P x Q inside le apart = ap (λ (l : List ℕ). slice_index l Q) le ∙ (set_replaces limits P x inside Q ∙ with_else (slice_index limits) P x Q apart)
+
+-- after a raise the pools that it doesn't feed are as fresh as before, and so is the raised one
+pub fresh_after : (market : Market) → IsWellFormed market → (limits new_limits : List ℕ) (stale new_stale : List Bool) (P : ℕ) → AreFresh market limits stale → IsSettled market (slice_index new_limits) P
+    → ((Q : ℕ) → Q ≢ P → slice_index new_limits Q ≡ slice_index limits Q) → ((Q : ℕ) → Q ≢ P → is_stale new_stale Q ≡ false → is_stale stale Q ≡ false)
+    → ((Q : ℕ) → Q < length market.pools → Feeds market P Q → is_stale new_stale Q ≡ true) → AreFresh market new_limits new_stale
+fresh_after market ok limits new_limits stale new_stale P fresh settled others kept marked Q within is = elim (eqb_tells Q P) [
+  | inl e ↦ subst (λ (R : ℕ). IsSettled market (slice_index new_limits) R) (sym e.1) settled
+  | inr e ↦
+      let apart : Q ≢ P = e.1 in
+      let low : slice_index limits Q ≤ slice_index new_limits Q = let same = others Q apart in omega (arith, same) in
+      stays_settled market ok (slice_index limits) (slice_index new_limits) Q within
+      (λ R fed. sym (others R (λ r. true≢false (sym (marked Q within (subst (λ (S : ℕ). Feeds market S Q) r fed)) ∙ is)))) low (fresh Q within (kept Q apart is))
+]

@@ -1,126 +1,123 @@
--- What lines say is in range, and a text is the printing of one document.
-use Rattle.std.proofs.Common.{◌≡◌, ◌∙◌, ◌+◌, ◌<◌, ◌≤◌, ℕ, Bool, true, false, ◌&&◌, nat_le, List, [], ◌∷◌, length, map, slice_index, All, Option, Some, None, refl, sym, ap, subst, zero-add, leb-true}
-use Rattle.std.specs.Borrow.{Bor}
-use Rattle.std.specs.Prelude.{filter_map, option_map, option_and_then, codes}
-use Rattle.std.specs.Str.{bytes_eq, IsAscii}
-use Rattle.std.proofs.lemmas.Bool.{and_parts}
-use Rattle.std.proofs.lemmas.List.FromFn.{length-map-range_with_len, get_or-map-range_with_len}
-use Rattle.std.proofs.lemmas.List.Quantifiers.{position-Some}
+-- The numbers of a result are in their ranges.
+use Rattle.std.proofs.Common.{◌≡◌, ◌∙◌, ◌+◌, ◌^◌, ◌<◌, ◌≤◌, drop, ℕ, zero, suc, List, [], ◌∷◌, length, map, get_or, slice_index, All, refl, ap, subst, inl, inr, arith}
+use Rattle.std.proofs.lemmas.Bool.{cases_Bool}
+use Rattle.std.specs.Prelude.{Bool, true, false, cond, filter, max, nat_eq}
+use Rattle.std.specs.List.{range_with_len, position_or_len}
+use Rattle.std.proofs.lemmas.List.{length-map}
 use Rattle.std.proofs.lemmas.List.Sums.{prefix_len-le-length}
+use Rattle.std.proofs.lemmas.List.FromFn.{length-map-range_with_len, get_or-map-range_with_len}
+use Rattle.sl_types.specs.declared.kinds.Entry.{Entry}
 use Rattle.sl_types.specs.declared.kinds.Raise.{Raise}
 use Rattle.sl_types.specs.declared.kinds.TheConstants.{MAX_SCORE, MAX_APPLICANTS}
-use Rattle.sl_types.specs.Market.{list_of}
-use Rattle.sl_types.specs.Valid.{IsValid}
-use Rattle.sl_codes.specs.Codes.{number_of}
-use Rattle.sl_run.specs.NamedMarket.{NamedMarket, IsNamed}
-use Rattle.sl_run.specs.Document.{Document}
-use Rattle.sl_run.specs.Fields.{fields_of, lines_of, number_of_field}
-use Rattle.sl_run.specs.Reading.{IsInRange, IsPrinted}
-use Rattle.sl_run.specs.ResultLines.{limit_of_fields, count_of_fields, raise_of_fields, limit_of_line, count_of_line, place_of_line, raise_of_line, index_of_place, document_of_lines}
-use Rattle.sl_run.specs.Tables.{only_if, of_four, number_within}
-use Rattle.sl_run.specs.ResultText.{result_records}
-use Rattle.sl_run.proofs.Filtered.{kept_pass}
-use Rattle.sl_run.proofs.Printed.{text_is_ascii}
-use Rattle.sl_run.proofs.PlainRecords.{all_plain}
-use Rattle.sl_run.proofs.Recovered.{document_again}
+use Rattle.sl_types.specs.Market.{Market, chain_of, list_of}
+use Rattle.sl_types.specs.WellFormed.{IsWellFormed}
+use Rattle.sl_laws.specs.Limits.{Limits, greatest_of, effective_limit, is_eligible, is_admitted_in, count_in}
+use Rattle.sl_laws.specs.Stable.{IsJustified}
+use Rattle.sl_laws.specs.Raises.{zeros, after_raise, after_raises, limits_after, EachRaise}
+use Rattle.sl_laws.proofs.Top.{justified_has_top}
+use Rattle.sl_instance.specs.NamedMarket.{NamedMarket}
+use Rattle.sl_codes.specs.Records.{records_of, rows_of}
+use Rattle.sl_doc.specs.Document.{Document, IsInRange}
+use Rattle.sl_doc.specs.Reading.{document_of, is_raise, raise_of, raise_rows}
+use Rattle.sl_doc.proofs.Fewer.{few_records}
+use Rattle.sl_run.specs.Result.{IsResultOf}
 
--- what four fields say passes, where what they say at all does
-pub four_pass : {A : Type 0} (Q : A → Type 0) (f : List ℕ → List ℕ → List ℕ → List ℕ → Option A) → ((a b c d : List ℕ) (y : A) → f a b c d ≡ Some y → Q y) → (fields : List (List ℕ)) (y : A) → of_four f fields ≡ Some y → Q y
-four_pass Q f h [] y e = cc
-four_pass Q f h (a ∷ []) y e = cc
-four_pass Q f h (a ∷ b ∷ []) y e = cc
-four_pass Q f h (a ∷ b ∷ c ∷ []) y e = cc
-four_pass Q f h (a ∷ b ∷ c ∷ d ∷ []) y e = h a b c d y e
-four_pass Q f h (a ∷ b ∷ c ∷ d ∷ g ∷ gs) y e = cc
+-- the index of the admitted choice is at most the length of the list
+index_low : (market : Market) (t : Limits) (choices : List Entry) → position_or_len (is_eligible market t) choices ≤ length choices
+index_low market t choices = prefix_len-le-length _ choices
 
-pub only_passed : {A : Type 0} (test : Bool) (o : Option A) (y : A) → only_if test o ≡ Some y → o ≡ Some y
-only_passed true o y e = e
-only_passed false o y e = cc
+at_map : (g : List Entry → ℕ) (lists : List (List Entry)) (k d : ℕ) → k < length lists → get_or (map g lists) k d ≡ g (get_or lists k [])
+at_map g [] k d h = absurd (omega (arith, h))
+at_map g (l ∷ ls) zero d h = refl
+at_map g (l ∷ ls) (suc k) d h = at_map g ls k d (omega (arith, h))
 
-if_within : (low high m y : ℕ) (test : Bool) → test ≡ (nat_le low m && nat_le m high) → only_if test (Some m) ≡ Some y → (low ≤ y) × (y ≤ high)
-if_within low high m y false is e = cc
-if_within low high m y true is e =
-    let same : m ≡ y = cc in
-    let parts = and_parts (nat_le low m) (nat_le m high) (sym is) in
-    subst (λ (k : ℕ). (low ≤ k) × (k ≤ high)) same (leb-true low m parts.0, leb-true m high parts.1)
+-- limits of which none is above the greatest
+abbrev AreLow : Limits → Type 0
+AreLow t = (P : ℕ) → t P ≤ MAX_SCORE + 1
 
-some_within : (low high y : ℕ) (o : Option ℕ) → option_and_then (λ m. only_if (nat_le low m && nat_le m high) (Some m)) o ≡ Some y → (low ≤ y) × (y ≤ high)
-some_within low high y None e = cc
-some_within low high y (Some m) e = if_within low high m y (nat_le low m && nat_le m high) refl e
+greatest_low : (t : Limits) (Ps : List ℕ) → AreLow t → greatest_of t Ps ≤ MAX_SCORE + 1
+greatest_low t [] low = omega arith
+greatest_low t (P ∷ Ps) low = let here = low P in let rest = greatest_low t Ps low in omega (arith, here, rest)
 
--- a number that is read is in its range
-pub within_range : (low high : ℕ) (field : List ℕ) (y : ℕ) → number_within low high field ≡ Some y → (low ≤ y) × (y ≤ high)
-within_range low high field y e = some_within low high y (number_of_field field) e
+raise_low : (t : Limits) (r : Raise) → AreLow t → r.limit ≤ MAX_SCORE + 1 → AreLow (after_raise t r)
+raise_low t r low here P = at (nat_eq P r.pool.0) P
+  where
+    at : (b : Bool) (P : ℕ) → cond b (max (t r.pool.0) r.limit) (t P) ≤ MAX_SCORE + 1
+    at true P = let own = low r.pool.0 in omega (arith, own, here)
+    at false P = low P
 
-limit_low : (line : List ℕ) (y : ℕ) → limit_of_line line ≡ Some y → y ≤ MAX_SCORE + 1
-limit_low line y e =
-    four_pass (λ y. y ≤ MAX_SCORE + 1) limit_of_fields
-    (λ a b c d y e. (within_range 0 (MAX_SCORE + 1) c y (only_passed (bytes_eq a (codes "limit")) (number_within 0 (MAX_SCORE + 1) c) y e)).1) (fields_of line) y e
+-- what each raise of a list that replays is
+abbrev MayReplay : Market → Limits → Raise → Type 0
+MayReplay market t r = (effective_limit market t r.pool.0 < r.limit) × IsJustified market t r.pool.0 r.limit
 
-count_low : (line : List ℕ) (y : ℕ) → count_of_line line ≡ Some y → y ≤ MAX_APPLICANTS
-count_low line y e =
-    four_pass (λ y. y ≤ MAX_APPLICANTS) count_of_fields
-    (λ a b c d y e. (within_range 0 MAX_APPLICANTS d y (only_passed (bytes_eq a (codes "limit")) (number_within 0 MAX_APPLICANTS d) y e)).1) (fields_of line) y e
+raises_low : (market : Market) → IsWellFormed market → (t : Limits) (c : List Raise) → AreLow t → EachRaise market (MayReplay market) t c → AreLow (after_raises t c)
+raises_low market well t [] low h = low
+raises_low market well t (r ∷ rs) low h =
+    let here = justified_has_top market well t r.pool.0 r.limit h.0 h.1.1 in
+    raises_low market well (after_raise t r) rs (raise_low t r low here) h.2
 
--- a raise over so many pools
-abbrev pub IsRaiseOver : ℕ → Raise → Type 0
-IsRaiseOver pools r = (r.pool.0 < pools) × (1 ≤ r.limit) × (r.limit ≤ MAX_SCORE + 1)
+-- the raises of a list that replays are in range
+raises_ranged : (market : Market) → IsWellFormed market → (t : Limits) (c : List Raise) → EachRaise market (MayReplay market) t c
+    → All (λ r. (r.pool.0 < length market.pools) × (1 ≤ r.limit) × (r.limit ≤ MAX_SCORE + 1)) c
+raises_ranged market well t [] h k d lt = absurd (omega (arith, lt))
+raises_ranged market well t (r ∷ rs) h zero d lt =
+    let above = h.1.0 in (h.0, omega (arith, above), justified_has_top market well t r.pool.0 r.limit h.0 h.1.1)
+raises_ranged market well t (r ∷ rs) h (suc k) d lt = raises_ranged market well (after_raise t r) rs h.2 k d (omega (arith, lt))
 
-raise_made : (pools : ℕ) (number limit : Option ℕ) → ((k : ℕ) → number ≡ Some k → k < pools) → ((y : ℕ) → limit ≡ Some y → (1 ≤ y) × (y ≤ MAX_SCORE + 1)) → (r : Raise)
-    → option_and_then (λ P. option_map (λ y. let r : Raise = record { pool = record { 0 = P }; limit = y } in r) limit) number ≡ Some r → IsRaiseOver pools r
-raise_made pools None limit h h' r e = cc
-raise_made pools (Some k) None h h' r e = cc
-raise_made pools (Some k) (Some y) h h' r e =
-    let made : Raise = record { pool = record { 0 = k }; limit = y } in
-    let same : made ≡ r = cc in
-    let low = h' y refl in
-    subst (IsRaiseOver pools) same (h k refl, low.0, low.1)
+same_at : {A : Type 0} (xs : List A) (k : ℕ) (d e : A) → k < length xs → get_or xs k d ≡ get_or xs k e
+same_at [] k d e lt = absurd (omega (arith, lt))
+same_at (x ∷ xs) zero d e lt = refl
+same_at (x ∷ xs) (suc k) d e lt = same_at xs k d e (omega (arith, lt))
 
-raise_over : (pool_codes : List (List ℕ)) (line : List ℕ) (r : Raise) → raise_of_line pool_codes line ≡ Some r → IsRaiseOver (length pool_codes) r
-raise_over pool_codes line r e =
-    four_pass (IsRaiseOver (length pool_codes)) (raise_of_fields pool_codes)
-    (λ a b c d r e. raise_made (length pool_codes) (number_of pool_codes b) (number_within 1 (MAX_SCORE + 1) c) (λ k at. (position-Some (bytes_eq b) pool_codes k [] at).0) (λ y at. within_range 1 (MAX_SCORE + 1) c y at) r
-    (only_passed (bytes_eq a (codes "raise")) _ r e)) (fields_of line) r e
+filter_low : {A : Type 0} (p : A → Bool) (xs : List A) → length (filter p xs) ≤ length xs
+filter_low p [] = omega arith
+filter_low p (x ∷ xs) = let rest = filter_low p xs in elim (cases_Bool (p x)) [
+  | inl e ↦ rw e (omega (arith, rest))
+  | inr e ↦ rw e (omega (arith, rest))
+]
 
--- the raises of lines
-pub raises_over : (n : NamedMarket) → IsNamed n → (lines : List (List ℕ)) → All (IsRaiseOver (length n.market.pools)) (filter_map (raise_of_line n.pool_codes) lines)
-raises_over n named lines =
-    subst (λ (m : ℕ). All (IsRaiseOver m) (filter_map (raise_of_line n.pool_codes) lines)) named.each_pool (kept_pass (IsRaiseOver (length n.pool_codes)) (raise_of_line n.pool_codes) (raise_over n.pool_codes) lines)
+-- of numbers made one for each pool, each is in range where all that can be made are
+made_low : (f : ℕ → ℕ) (most n : ℕ) (xs : List ℕ) → xs ≡ map f (range_with_len 0 n) → ((k : ℕ) → f k ≤ most) → All (λ x. x ≤ most) xs
+made_low f most n xs e low k d lt =
+    let within : k < n = subst (λ (m : ℕ). k < m) (ap length e ∙ length-map-range_with_len f 0 n) lt in
+    let is : get_or xs k d ≡ f (0 + k) = ap (λ (ys : List ℕ). get_or ys k d) e ∙ get_or-map-range_with_len f 0 n k (0 + k) d within refl in
+    let here = low (0 + k) in
+    omega (arith, is, here)
 
--- an index for each applicant
-pub each_index : (n : NamedMarket) (lines : List (List ℕ)) → length (document_of_lines n lines).admitted ≡ length n.market.lists
-each_index n lines = length-map-range_with_len (λ a. index_of_place n.market (slice_index (filter_map place_of_line lines) a) a) 0 (length n.market.lists)
-
--- what as many lines as pools say is in range
-pub lines_in_range : (n : NamedMarket) → IsNamed n → (lines : List (List ℕ)) → length (filter_map limit_of_line lines) ≡ length n.market.pools → length (filter_map count_of_line lines) ≡ length n.market.pools → IsInRange n (document_of_lines n lines)
-lines_in_range n named lines limits counts = record {
-  each_limit = limits;
-  limits = kept_pass (λ y. y ≤ MAX_SCORE + 1) limit_of_line limit_low lines;
-  each_count = counts;
-  counts = kept_pass (λ y. y ≤ MAX_APPLICANTS) count_of_line count_low lines;
-  each_admission = each_index n lines;
+pub result_in_range : (n : NamedMarket) (doc : Document) → IsWellFormed n.market → length n.market.lists ≤ MAX_APPLICANTS → IsResultOf n.market doc → IsInRange n doc
+result_in_range n doc well few result = record {
+  each_limit = result.each;
+  limits = λ k d lt.
+      let within = subst (λ (m : ℕ). k < m) result.each lt in
+      let is = (result.proved.1 k within).1 in
+      let low = greatest_low (limits_after doc.raises) (chain_of n.market k) (raises_low n.market well zeros doc.raises (λ P. omega arith) result.proved.0) in
+      let here = same_at doc.limits k d 0 lt in
+      omega (arith, is, low, here);
+  each_count = ap length result.counts ∙ length-map-range_with_len (count_in n.market (slice_index doc.limits)) 0 (length n.market.pools);
+  counts = made_low (count_in n.market (slice_index doc.limits)) MAX_APPLICANTS (length n.market.pools) doc.counts result.counts
+      (λ P. let low = filter_low (is_admitted_in n.market (slice_index doc.limits) P) n.market.lists in omega (arith, low, few));
+  each_admission = ap length result.admitted ∙ length-map n.market.lists (λ choices. position_or_len (is_eligible n.market (slice_index doc.limits)) choices);
   admitted = λ a lt.
-      let place = slice_index (filter_map place_of_line lines) a in
-      let at : slice_index (document_of_lines n lines).admitted a ≡ index_of_place n.market place a =
-      get_or-map-range_with_len (λ b. index_of_place n.market (slice_index (filter_map place_of_line lines) b) b) 0 (length n.market.lists) a a 0 lt (zero-add a) in
-      subst (λ (i : ℕ). i ≤ length (list_of n.market a)) (sym at) (prefix_len-le-length _ (list_of n.market a));
-  raises = raises_over n named lines;
+      let f = λ (choices : List Entry). position_or_len (is_eligible n.market (slice_index doc.limits)) choices in
+      let is : slice_index doc.admitted a ≡ f (list_of n.market a) = ap (λ (xs : List ℕ). slice_index xs a) result.admitted ∙ at_map f n.market.lists a 0 lt in
+      let low = index_low n.market (slice_index doc.limits) (list_of n.market a) in
+      omega (arith, is, low);
+  raises = raises_ranged n.market well zeros doc.raises result.proved.0;
 }
 
--- the document that is printed as a text is the one that its lines say
-pub printed_again : (n : NamedMarket) → IsNamed n → IsValid n.market → (text : List ℕ) (doc : Document) → IsPrinted n text doc → document_of_lines n (lines_of text) ≡ doc
-printed_again n named ok text doc p = ap (λ (t : List ℕ). document_of_lines n (lines_of t)) p.printed ∙ document_again n named ok doc p.in_range
+drop_low : {A : Type 0} (k : ℕ) (xs : List A) → length (drop k xs) ≤ length xs
+drop_low zero xs = omega arith
+drop_low (suc k) [] = omega arith
+drop_low (suc k) (x ∷ xs) = let rest = drop_low k xs in omega (arith, rest)
 
--- what is said by the lines that a reader finds in a text
-pub said_of_text : (n : NamedMarket) (bytes text : List ℕ) (lines found : List (Bor (List ℕ))) (doc : Document) → text ≡ bytes → map (λ s. s.now) lines ≡ lines_of text → found ≡ lines
-    → doc ≡ document_of_lines n (map (λ s. s.now) found) → doc ≡ document_of_lines n (lines_of bytes)
-said_of_text n bytes text lines found doc same parts is said =
-    said ∙ ap (document_of_lines n) (ap (map (λ (s : Bor (List ℕ)). s.now)) is ∙ (parts ∙ ap lines_of same))
-
--- the text of a document is ASCII
-pub printed_is_ascii : (n : NamedMarket) → IsNamed n → (text : List ℕ) (doc : Document) → IsPrinted n text doc → IsAscii text
-printed_is_ascii n named text doc p = subst IsAscii (sym p.printed) (text_is_ascii (result_records n doc) (all_plain n named doc))
-
--- a text is the printing of one document at most
-pub printings_are_one : (n : NamedMarket) → IsNamed n → IsValid n.market → (text : List ℕ) (doc doc' : Document) → IsPrinted n text doc → IsPrinted n text doc' → doc ≡ doc'
-printings_are_one n named ok text doc doc' p p' = sym (printed_again n named ok text doc p) ∙ printed_again n named ok text doc' p'
+-- a document of a file has fewer raises than the file has bytes
+pub few_raises : (n : NamedMarket) (bytes : List ℕ) (doc : Document) → length bytes ≤ 2 ^ 28 → doc ≡ document_of n (rows_of bytes) → length doc.raises < 2 ^ 32
+few_raises n bytes doc short is =
+    let rows = rows_of bytes in
+    let k = 1 + length n.market.pools + length n.market.lists in
+    let sizes : length doc.raises ≡ length (raise_rows n rows) = ap (λ (d : Document). length d.raises) is ∙ length-map (raise_rows n rows) (raise_of n.pool_codes) in
+    let raises = filter_low is_raise (drop k rows) in
+    let later = drop_low k rows in
+    let after_header = drop_low 1 (records_of bytes) in
+    let few = few_records bytes in
+    omega (arith, sizes, raises, later, after_header, few, short)

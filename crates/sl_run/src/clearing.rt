@@ -1,12 +1,16 @@
-ghost use Rattle.std.specs.Prelude.{◌≡◌, ◌<◌, ℕ, length, slice_index, MatchOption, MatchBool, IfOk, OnOk};
+ghost use Rattle.std.specs.Prelude.{◌≡◌, ◌≢◌, ◌<◌, ℕ, true, false, All, length, slice_index, MatchOption, MatchBool, IfOk, OnOk};
 ghost use Rattle.sl_laws.specs.Limits.{effective_limit};
 ghost use Rattle.sl_laws.specs.Stable.{IsSettled, IsLeastStable};
 ghost use Rattle.sl_laws.specs.Raises.{Proves};
+ghost use Rattle.sl_contend.specs.Contention.{contention_of};
+ghost use Rattle.sl_contend.specs.Scores.{HasRoomFor};
 ghost use Rattle.sl_check.specs.Verdict.{AreSettled};
-ghost use Rattle.sl_run.specs.Clearing.{IsGreatestRaise, IsUnderWay, room};
+ghost use Rattle.sl_run.specs.Clearing.{AreFresh, AreScorePools, is_stale, IsGreatestRaise, IsUnderWay, room};
 
-use sl_laws::{plain_eff, plain_justified};
-use sl_types::{Instance, MAX_SCORE, OutOfMemory, PoolId, Raise};
+use crate::by_pool::ByPool;
+use sl_contend::{Contenders, RaiseRule, Scratch};
+use sl_laws::plain_eff;
+use sl_types::{Instance, OutOfMemory, PoolId, Raise};
 use std::alloc::Global;
 
 /// Limits of pools, in points, and the raises that lead to them from zeros, in order.
@@ -17,44 +21,51 @@ pub struct Clearing {
 }
 
 // The greatest justified raise of a pool, where it is above the pool's effective limit.
-#[tactic(auto, using(crate::proofs::Raising::below_all, crate::proofs::Raising::below_failed, sl_laws::proofs::Top::settled_high))]
-fn greatest_raise(instance: &Instance, limits: &[u32], pool: PoolId) -> Option<u32>
+#[tactic(auto, using(crate::proofs::Raising::greatest, crate::proofs::Raising::settled_by))]
+fn greatest_raise(
+    instance: &Instance,
+    contenders: &Contenders,
+    limits: &[u32],
+    scratch: &mut Scratch,
+    pool: PoolId,
+) -> Option<u32>
+    requires alone { AreScorePools instance.now }
+    requires contenders { contenders.now ≡ contention_of instance.now }
+    requires scratch { HasRoomFor instance.now scratch.old }
     requires sizes { length limits.now ≡ length instance.now.pools }
     requires within { pool.0 < length instance.now.pools }
-    ensures { MatchOption result (IsSettled instance.now (slice_index limits.now) pool.0) (λ x. IsGreatestRaise instance.now (slice_index limits.now) pool.0 x) }
+    ensures raise { MatchOption result (IsSettled instance.now (slice_index limits.now) pool.0) (λ x. IsGreatestRaise instance.now (slice_index limits.now) pool.0 x) }
+    ensures scratch { HasRoomFor instance.now scratch.new }
 {
-    let _pools = instance.pools();
-    let Some(mut low) = plain_eff(instance, limits, pool).checked_add(1) else {
-        return None;
-    };
-    if !plain_justified(instance, limits, pool, low) {
-        return None;
+    let best = ByPool.best(instance, contenders, pool, limits, scratch);
+    if best > plain_eff(instance, limits, pool) {
+        Some(best)
+    } else {
+        None
     }
-    let mut high = MAX_SCORE + 2;
-    while high - low > 1 {
-        let middle = low + (high - low) / 2;
-        if plain_justified(instance, limits, pool, middle) {
-            low = middle;
-        } else {
-            high = middle;
-        }
-    }
-    Some(low)
 }
 
 // Raises a pool where it can be. Tells whether it was.
 fn raise_pool(
     instance: &Instance,
+    contenders: &Contenders,
     clearing: &mut Clearing,
+    scratch: &mut Scratch,
     pool: PoolId,
 ) -> Result<bool, OutOfMemory>
+    requires alone { AreScorePools instance.now }
+    requires contenders { contenders.now ≡ contention_of instance.now }
+    requires scratch { HasRoomFor instance.now scratch.old }
     requires under_way { IsUnderWay instance.now clearing.old.limits.items clearing.old.raises.items }
     requires within { pool.0 < length instance.now.pools }
+    ensures scratch { HasRoomFor instance.now scratch.new }
     ensures under_way { OnOk result (IsUnderWay instance.now clearing.new.limits.items clearing.new.raises.items) }
-    ensures raised { IfOk result (λ raised. MatchBool raised (room clearing.new.limits.items < room clearing.old.limits.items) ((clearing.new.limits.items ≡ clearing.old.limits.items) × IsSettled instance.now (slice_index clearing.old.limits.items) pool.0)) }
+    ensures settled { OnOk result (IsSettled instance.now (slice_index clearing.new.limits.items) pool.0) }
+    ensures others { OnOk result ((Q : ℕ) → Q ≢ pool.0 → slice_index clearing.new.limits.items Q ≡ slice_index clearing.old.limits.items Q) }
+    ensures raised { IfOk result (λ raised. MatchBool raised (room clearing.new.limits.items < room clearing.old.limits.items) (clearing.new.limits.items ≡ clearing.old.limits.items)) }
 {
     let _pools = instance.pools();
-    let Some(limit) = greatest_raise(instance, &clearing.limits, pool) else {
+    let Some(limit) = greatest_raise(instance, contenders, &clearing.limits, scratch, pool) else {
         return Ok(false);
     };
     let Ok(()) = clearing.raises.push(Raise { pool, limit }) else {
@@ -64,15 +75,84 @@ fn raise_pool(
     Ok(true)
 }
 
-// Raises each pool once, in rising order. Tells whether one was raised.
-fn raise_each(instance: &Instance, clearing: &mut Clearing) -> Result<bool, OutOfMemory>
-    requires { IsUnderWay instance.now clearing.old.limits.items clearing.old.raises.items }
+// Marks pools as stale.
+fn mark(stale: &mut [bool], pools: &[PoolId])
+    requires { All (λ Q. Q.0 < length stale.old) pools.now }
+    ensures sizes { length stale.new ≡ length stale.old }
+    ensures kept { (P : ℕ) → is_stale stale.new P ≡ false → is_stale stale.old P ≡ false }
+    ensures marked { All (λ Q. is_stale stale.new Q.0 ≡ true) pools.now }
+{
+    for pool in pools {
+        stale[pool.0 as usize] = true;
+    }
+}
+
+// Raises a pool where it can be, if it is stale: a pool that isn't is settled. Where it was raised, the pools
+// that it feeds are stale from then on. Tells whether it was.
+fn visit(
+    instance: &Instance,
+    contenders: &Contenders,
+    clearing: &mut Clearing,
+    scratch: &mut Scratch,
+    stale: &mut [bool],
+    pool: PoolId,
+) -> Result<bool, OutOfMemory>
+    requires alone { AreScorePools instance.now }
+    requires contenders { contenders.now ≡ contention_of instance.now }
+    requires scratch { HasRoomFor instance.now scratch.old }
+    requires under_way { IsUnderWay instance.now clearing.old.limits.items clearing.old.raises.items }
+    requires within { pool.0 < length instance.now.pools }
+    requires sizes { length stale.old ≡ length instance.now.pools }
+    requires fresh { AreFresh instance.now clearing.old.limits.items stale.old }
+    ensures scratch { HasRoomFor instance.now scratch.new }
+    ensures sizes { length stale.new ≡ length stale.old }
     ensures under_way { OnOk result (IsUnderWay instance.now clearing.new.limits.items clearing.new.raises.items) }
+    ensures fresh { OnOk result (AreFresh instance.now clearing.new.limits.items stale.new) }
+    ensures raised { IfOk result (λ raised. MatchBool raised (room clearing.new.limits.items < room clearing.old.limits.items) ((clearing.new.limits.items ≡ clearing.old.limits.items) × IsSettled instance.now (slice_index clearing.old.limits.items) pool.0)) }
+{
+    let _pools = instance.pools();
+    if !stale[pool.0 as usize] {
+        return Ok(false);
+    }
+    if !raise_pool(instance, contenders, clearing, scratch, pool)? {
+        stale[pool.0 as usize] = false;
+        return Ok(false);
+    }
+    stale[pool.0 as usize] = false;
+    mark(stale, contenders.fed(pool));
+    Ok(true)
+}
+
+// Visits each pool once, in rising order. Tells whether one was raised.
+fn visit_each(
+    instance: &Instance,
+    contenders: &Contenders,
+    clearing: &mut Clearing,
+    scratch: &mut Scratch,
+    stale: &mut [bool],
+) -> Result<bool, OutOfMemory>
+    requires alone { AreScorePools instance.now }
+    requires contenders { contenders.now ≡ contention_of instance.now }
+    requires scratch { HasRoomFor instance.now scratch.old }
+    requires under_way { IsUnderWay instance.now clearing.old.limits.items clearing.old.raises.items }
+    requires sizes { length stale.old ≡ length instance.now.pools }
+    requires fresh { AreFresh instance.now clearing.old.limits.items stale.old }
+    ensures scratch { HasRoomFor instance.now scratch.new }
+    ensures sizes { length stale.new ≡ length stale.old }
+    ensures under_way { OnOk result (IsUnderWay instance.now clearing.new.limits.items clearing.new.raises.items) }
+    ensures fresh { OnOk result (AreFresh instance.now clearing.new.limits.items stale.new) }
     ensures raised { IfOk result (λ raised. MatchBool raised (room clearing.new.limits.items < room clearing.old.limits.items) (AreSettled instance.now (slice_index clearing.new.limits.items))) }
 {
     let mut any = false;
     for number in 0..instance.pools() {
-        if raise_pool(instance, clearing, PoolId(number as u32))? {
+        if visit(
+            instance,
+            contenders,
+            clearing,
+            scratch,
+            stale,
+            PoolId(number as u32),
+        )? {
             any = true;
         }
     }
@@ -96,21 +176,37 @@ fn publish(alloc: Global, instance: &Instance, limits: &[u32]) -> Result<Vec<u32
 }
 
 /// The least stable limits, and raises that prove them: round after round over the pools in rising order,
-/// until a round raises none.
+/// until a round raises none. The contenders were made for the instance.
 #[tactic(auto, using(crate::proofs::Raising::at_zeros, crate::proofs::Raising::ended))]
-pub fn clear(alloc: Global, instance: &Instance) -> Result<Clearing, OutOfMemory>
+pub fn clear(
+    alloc: Global,
+    instance: &Instance,
+    contenders: &Contenders,
+) -> Result<Clearing, OutOfMemory>
+    requires alone { AreScorePools instance.now }
+    requires contenders { contenders.now ≡ contention_of instance.now }
     ensures each { IfOk result (λ c. length c.limits.items ≡ length instance.now.pools) }
     ensures proved { IfOk result (λ c. Proves instance.now c.raises.items (slice_index c.limits.items)) }
     ensures least { IfOk result (λ c. IsLeastStable instance.now (slice_index c.limits.items)) }
 {
+    let mut scratch = Scratch::new(alloc, instance, contenders)?;
     let Ok(limits) = vec![in alloc; 0; instance.pools()] else {
+        return Err(OutOfMemory);
+    };
+    let Ok(mut stale) = vec![in alloc; true; instance.pools()] else {
         return Err(OutOfMemory);
     };
     let mut clearing = Clearing {
         limits,
         raises: Vec::new(alloc),
     };
-    while raise_each(instance, &mut clearing)? {}
+    while visit_each(
+        instance,
+        contenders,
+        &mut clearing,
+        &mut scratch,
+        &mut stale,
+    )? {}
     let limits = publish(alloc, instance, &clearing.limits)?;
     Ok(Clearing {
         limits,

@@ -1,30 +1,25 @@
-ghost use Rattle.std.specs.Prelude.{◌≡◌};
+ghost use Rattle.std.specs.Prelude.{◌≡◌, map};
+ghost use Rattle.std.specs.List.{concat};
 ghost use Rattle.sl_run.specs.Failures.{status_of, line_of};
 ghost use Rattle.sl_run.specs.Reports.{Reports};
+ghost use Rattle.sl_run.specs.declared.failure.Failure.TheVariants as failed;
 
-use sl_io::Sink;
-
-/// The part of a file in a command.
-#[derive(Clone, Copy, Debug, PartialEq, Eq)]
-pub enum Part {
-    Pools,
-    Programmes,
-    Applications,
-    /// The result document.
-    Result,
-}
+use itoa::Buffer;
+use sl_codes::{ReadError, Table, TableFault};
+use sl_io::{Sink, WriteError};
+use sl_types::OutOfMemory;
 
 /// Why a command ended without its result.
 #[derive(Clone, Copy, Debug, PartialEq, Eq)]
 pub enum Failure {
     /// The words are not those of a command.
     Words,
-    /// The file is not in the plain form.
-    NotPlain(Part),
+    /// The file has this fault.
+    Refused(TableFault),
     /// The file is longer than a file may be.
-    TooLong(Part),
+    TooLong(Table),
     /// The file could not be read.
-    Unreadable(Part),
+    Unreadable(Table),
     /// The result could not be written.
     Unwritable,
     /// Memory ran out.
@@ -38,40 +33,79 @@ impl Failure {
     {
         match self {
             Failure::Words => 2,
-            Failure::NotPlain(_) | Failure::TooLong(_) => 3,
+            Failure::Refused(_) | Failure::TooLong(_) => 3,
             Failure::Unreadable(_) => 4,
             Failure::Unwritable => 5,
             Failure::OutOfMemory => 6,
         }
     }
+}
 
-    /// The line for people.
-    pub fn line(self) -> &'static str
-        ensures { result.now ≡ line_of self }
-    {
-        match self {
-            Failure::Words => "scorelimits: the words are not a command form\n",
-            Failure::NotPlain(Part::Pools) => "pools: not in the plain form\n",
-            Failure::NotPlain(Part::Programmes) => "programmes: not in the plain form\n",
-            Failure::NotPlain(Part::Applications) => "applications: not in the plain form\n",
-            Failure::NotPlain(Part::Result) => "result: not in the plain form\n",
-            Failure::TooLong(Part::Pools) => "pools: longer than 268435456 bytes\n",
-            Failure::TooLong(Part::Programmes) => "programmes: longer than 268435456 bytes\n",
-            Failure::TooLong(Part::Applications) => "applications: longer than 268435456 bytes\n",
-            Failure::TooLong(Part::Result) => "result: longer than 268435456 bytes\n",
-            Failure::Unreadable(Part::Pools) => "pools: cannot be read\n",
-            Failure::Unreadable(Part::Programmes) => "programmes: cannot be read\n",
-            Failure::Unreadable(Part::Applications) => "applications: cannot be read\n",
-            Failure::Unreadable(Part::Result) => "result: cannot be read\n",
-            Failure::Unwritable => "output: cannot be written\n",
-            Failure::OutOfMemory => "out of memory\n",
+impl From<ReadError> for Failure {
+    ghost use Rattle.sl_run.specs.Failures.{failure_of_read};
+
+    ghost from_gives = { λ error failure. failure ≡ failure_of_read error };
+
+    fn from(error: ReadError) -> Failure {
+        match error {
+            ReadError::Bad(fault) => Failure::Refused(fault),
+            ReadError::OutOfMemory => Failure::OutOfMemory,
         }
     }
 }
 
-/// Puts a failure's line. A fault of the sink changes nothing else.
+impl From<WriteError> for Failure {
+    ghost use Rattle.sl_run.specs.Failures.{failure_of_write};
+
+    ghost from_gives = { λ error failure. failure ≡ failure_of_write error };
+
+    fn from(error: WriteError) -> Failure {
+        match error {
+            WriteError::Fault => Failure::Unwritable,
+            WriteError::OutOfMemory => Failure::OutOfMemory,
+        }
+    }
+}
+
+impl From<OutOfMemory> for Failure {
+    ghost from_gives = { λ _ failure. failure ≡ failed.OutOfMemory };
+
+    fn from(_error: OutOfMemory) -> Failure {
+        Failure::OutOfMemory
+    }
+}
+
+// Puts pieces one after another, up to the first fault.
+fn put_all<E: Sink>(pieces: &[&str], err: &mut E)
+    ensures { Reports (E.taken err.old) (E.taken err.new) (E.faults err.old) (E.faults err.new) (concat (map (λ s. s.now) pieces.now)) }
+{
+    for piece in pieces {
+        match err.put(piece.as_bytes()) {
+            Ok(()) => {}
+            Err(_) => return,
+        }
+    }
+}
+
+/// Puts a failure's line for people. A fault of the sink changes nothing else.
 pub fn report<E: Sink>(failure: Failure, err: &mut E)
     ensures { Reports (E.taken err.old) (E.taken err.new) (E.faults err.old) (E.faults err.new) (line_of failure) }
 {
-    let _ = err.put(failure.line().as_bytes());
+    match failure {
+        Failure::Words => put_all(&["scorelimits: the words are not a command form\n"], err),
+        Failure::Refused(fault) => {
+            let mut digits = Buffer::new();
+            let at = digits.format(fault.at);
+            put_all(
+                &[fault.table.word(), ":", at, ": ", fault.cause.name(), "\n"],
+                err,
+            );
+        }
+        Failure::TooLong(table) => {
+            put_all(&[table.word(), ": longer than 268435456 bytes\n"], err);
+        }
+        Failure::Unreadable(table) => put_all(&[table.word(), ": cannot be read\n"], err),
+        Failure::Unwritable => put_all(&["output: cannot be written\n"], err),
+        Failure::OutOfMemory => put_all(&["out of memory\n"], err),
+    }
 }

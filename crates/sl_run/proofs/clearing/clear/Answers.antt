@@ -5,11 +5,17 @@ use Rattle.sl_run.proofs.clearing.clear.Goals as goal
 
 pub returns-clause-proved : goal.returns-clause-proved
 returns-clause-proved c =
-    ended c.args.instance.now c.raise_each.new.clearing.limits.items c.in_ok-limits.limits.items c.raise_each.new.clearing.raises.items c.in_ok-raise_each.ensures.under_way
-    (rw c.if-branch.false at c.in_ok-raise_each.ensures.raised) (rw c.deref.ensures.value at c.in_ok-limits.ensures.effective)
+    ended c.args.instance.now c.visit_each.new.clearing.limits.items c.in_ok-limits.limits.items c.visit_each.new.clearing.raises.items c.in_ok-visit_each.ensures.under_way
+    (rw c.if-branch.false at c.in_ok-visit_each.ensures.raised) (rw c.deref.ensures.value at c.in_ok-limits.ensures.effective)
 
 pub returns-clause-least : goal.returns-clause-least
 returns-clause-least c =
-    proves_the_least c.args.instance.now c.pools.ensures.well_formed c.raise_each.new.clearing.raises.items (slice_index c.in_ok-limits.limits.items)
-    (ended c.args.instance.now c.raise_each.new.clearing.limits.items c.in_ok-limits.limits.items c.raise_each.new.clearing.raises.items c.in_ok-raise_each.ensures.under_way
-    (rw c.if-branch.false at c.in_ok-raise_each.ensures.raised) (rw c.deref.ensures.value at c.in_ok-limits.ensures.effective))
+    proves_the_least c.args.instance.now c.pools.ensures.well_formed c.visit_each.new.clearing.raises.items (slice_index c.in_ok-limits.limits.items)
+    (ended c.args.instance.now c.visit_each.new.clearing.limits.items c.in_ok-limits.limits.items c.visit_each.new.clearing.raises.items c.in_ok-visit_each.ensures.under_way
+    (rw c.if-branch.false at c.in_ok-visit_each.ensures.raised) (rw c.deref.ensures.value at c.in_ok-limits.ensures.effective))
+
+pub visit_each-requires-clause-sizes : goal.visit_each-requires-clause-sizes
+visit_each-requires-clause-sizes c = rw c.deref_mut.ensures.value c.loop-clearing.invariant.2
+
+pub visit_each-requires-clause-fresh : goal.visit_each-requires-clause-fresh
+visit_each-requires-clause-fresh c = rw c.deref_mut.ensures.value c.loop-clearing.invariant.3

@@ -1,6 +1,6 @@
 use Rattle.std.proofs.Common.{◌∙◌, sym, ap, map, string_bytes, Err}
 use Rattle.std.specs.Io.KnownBytes.{Appends}
-use Rattle.sl_run.proofs.Ending.{only_output, none_refused, refuses, completes}
+use Rattle.sl_run.proofs.Ending.{only_output, only_memory, none_refused, refuses, completes}
 use Rattle.sl_run.proofs.command.run.Goals as goal
 
 pub returns-in-Ok-clause-refused : goal.returns-in-Ok-clause-refused
@@ -10,6 +10,9 @@ returns-in-Ok-clause-refused g c = λ tells.
 
 pub returns-in-Err-clause-broken_off : goal.returns-in-Err-clause-broken_off
 returns-in-Err-clause-broken_off g c = λ five tells. c.in-Err.ensures.broken_off (ap Err (only_output c.in-Err.failure (sym c.status.ensures ∙ five))) tells
+
+pub returns-in-Err-clause-partly : goal.returns-in-Err-clause-partly
+returns-in-Err-clause-partly g c = λ six. c.in-Err.ensures.partly (ap Err (only_memory c.in-Err.failure (sym c.status.ensures ∙ six)))
 
 pub returns-in-Err-clause-refused : goal.returns-in-Err-clause-refused
 returns-in-Err-clause-refused g c = λ tells. rw c.status.ensures

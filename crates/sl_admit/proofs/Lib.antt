@@ -1,0 +1,4 @@
+mod Applicants
+mod Reaching
+mod Round
+mod Counted

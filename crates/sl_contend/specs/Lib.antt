@@ -1,0 +1,4 @@
+pub mod Contention
+pub mod Entering
+pub mod Scores
+pub mod Rule

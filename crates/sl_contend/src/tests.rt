@@ -1,0 +1,132 @@
+ghost use Rattle.std.specs.Prelude.{◌≡◌};
+ghost use Rattle.sl_contend.specs.Contention.{contention_of};
+
+use super::*;
+use sl_types::{AppId, Entry, Instance, Pool, PoolId, ProgId, Rule};
+use std::alloc::Global;
+use std::process::Abort;
+use std::test::Fail;
+
+const A: PoolId = PoolId(0);
+
+const B: PoolId = PoolId(1);
+
+const C: PoolId = PoolId(2);
+
+fn choice(place: u32, prog: u32, score: u32) -> Entry {
+    Entry {
+        place,
+        prog: ProgId(prog),
+        score,
+    }
+}
+
+// An instance with pools of one place, and these programmes and lists.
+fn instance(
+    alloc: Global,
+    pools: usize,
+    progs: Vec<PoolId>,
+    lists: Vec<Vec<Entry>>,
+) -> Result<Instance, Fail> {
+    let pool = Pool {
+        quota: 1,
+        parent: None,
+        rule: Rule::H,
+    };
+    Ok(Instance::new(alloc, vec![in alloc; pool; pools]?, progs, lists)?)
+}
+
+// Who contends for a pool, which pools feed it, and which it feeds.
+fn contends(
+    rt: &impl Abort,
+    instance: &Instance,
+    contenders: &Contenders,
+    pool: PoolId,
+    of: &[AppId],
+    feeds: &[PoolId],
+    fed: &[PoolId],
+)
+    requires { contenders.now ≡ contention_of instance.now }
+{
+    assert!(rt; (pool.0 as usize) < instance.pools());
+    assert_eq!(rt; contenders.of(pool), of);
+    assert_eq!(rt; contenders.feeds(pool), feeds);
+    assert_eq!(rt; contenders.fed(pool), fed);
+}
+
+#[test]
+fn displaced_twice(rt: HostRuntime) -> Result<(), Fail> {
+    let alloc = rt.alloc();
+    let x = vec![in alloc; choice(1, 0, 10), choice(2, 1, 10)]?;
+    let y = vec![in alloc; choice(1, 1, 9), choice(2, 0, 12)]?;
+    let z = vec![in alloc; choice(1, 1, 11)]?;
+    let instance = instance(alloc, 2, vec![in alloc; A, B]?, vec![in alloc; x, y, z]?)?;
+    let contenders = Contenders::new(alloc, &instance)?;
+    let (x, y, z) = (AppId(0), AppId(1), AppId(2));
+    contends(&rt, &instance, &contenders, A, &[x, y], &[B], &[B]);
+    contends(&rt, &instance, &contenders, B, &[x, y, z], &[A], &[A]);
+    Ok(())
+}
+
+#[test]
+fn both_prefer_the_first(rt: HostRuntime) -> Result<(), Fail> {
+    let alloc = rt.alloc();
+    let x = vec![in alloc; choice(1, 0, 10), choice(2, 1, 10)]?;
+    let y = vec![in alloc; choice(1, 0, 8), choice(2, 1, 8)]?;
+    let z = vec![in alloc; choice(1, 1, 9)]?;
+    let instance = instance(alloc, 2, vec![in alloc; A, B]?, vec![in alloc; x, y, z]?)?;
+    let contenders = Contenders::new(alloc, &instance)?;
+    let (x, y, z) = (AppId(0), AppId(1), AppId(2));
+    contends(&rt, &instance, &contenders, A, &[x, y], &[], &[B]);
+    contends(&rt, &instance, &contenders, B, &[x, y, z], &[A], &[]);
+    Ok(())
+}
+
+// x goes from A through C back to A, y from C through B to A; nobody applies to the last pool.
+#[test]
+fn two_programmes_in_one_pool(rt: HostRuntime) -> Result<(), Fail> {
+    let alloc = rt.alloc();
+    let x = vec![in alloc; choice(1, 0, 5), choice(2, 3, 5), choice(3, 1, 5)]?;
+    let y = vec![in alloc; choice(1, 3, 5), choice(2, 2, 5), choice(3, 1, 5)]?;
+    let instance = instance(alloc, 4, vec![in alloc; A, A, B, C]?, vec![in alloc; x, y]?)?;
+    let contenders = Contenders::new(alloc, &instance)?;
+    let (x, y) = (AppId(0), AppId(1));
+    contends(&rt, &instance, &contenders, A, &[x, y], &[B, C], &[C]);
+    contends(&rt, &instance, &contenders, B, &[y], &[C], &[A]);
+    contends(&rt, &instance, &contenders, C, &[x, y], &[A], &[A, B]);
+    contends(&rt, &instance, &contenders, PoolId(3), &[], &[], &[]);
+    Ok(())
+}
+
+// Takes scores while there is room.
+fn takes(scratch: &mut Scratch, scores: &[u32]) {
+    for score in scores {
+        if !scratch.is_full() {
+            scratch.push(*score);
+        }
+    }
+}
+
+#[test]
+fn ranked_scores(rt: HostRuntime) -> Result<(), Fail> {
+    let alloc = rt.alloc();
+    let list = vec![in alloc; choice(1, 0, 5)]?;
+    let mut lists = Vec::new(alloc);
+    for _ in 0..5 {
+        lists.push(list.clone()?)?;
+    }
+    let instance = instance(alloc, 2, vec![in alloc; A]?, lists)?;
+    let contenders = Contenders::new(alloc, &instance)?;
+    let mut scratch = Scratch::new(alloc, &instance, &contenders)?;
+    for (rank, score, above) in [(0, 9, 0), (1, 9, 0), (2, 7, 2), (3, 7, 2), (4, 3, 4)] {
+        takes(&mut scratch, &[7, 9, 3, 9, 7, 1]);
+        assert_eq!(rt; scratch.len(), 5);
+        assert!(rt; scratch.is_full());
+        assert!(rt; rank < scratch.len());
+        assert_eq!(rt; scratch.ranked(rank), Ranked { score, above });
+        assert_eq!(rt; scratch.len(), 0);
+    }
+    scratch.clear();
+    assert!(rt; !scratch.is_full());
+    Ok(())
+}

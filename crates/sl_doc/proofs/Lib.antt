@@ -1,0 +1,16 @@
+mod Again
+mod Drafts
+pub mod Fewer
+mod Indexes
+mod Lines
+mod Numbers
+mod Pieces
+mod Placed
+mod PlainText
+mod Ranges
+mod ReadBack
+mod Recorded
+mod Records
+mod Right
+mod Sections
+mod Windows

@@ -1,9 +1,0 @@
-use Rattle.std.proofs.Common.{◌∙◌, ◌++◌, ap, string_bytes}
-use Rattle.sl_run.specs.ResultText.{text_of_record, limit_record}
-use Rattle.sl_run.proofs.Writing.{numbered_more}
-use Rattle.sl_run.proofs.document.add_limits.Goals as goal
-
-pub loop-number-preserved : goal.loop-number-preserved
-loop-number-preserved c =
-    let record_of = limit_record c.args.named.now c.args.limits.now c.args.counts.now in
-    c.in_ok-add_limit.ensures ∙ (ap (λ t. t ++ text_of_record (record_of c.loop-number.number)) c.loop-number.invariant ∙ numbered_more record_of (string_bytes c.args.text.now) c.loop-number.number)

@@ -1,6 +1,0 @@
-use Rattle.std.proofs.Common.{◌∙◌, sym}
-use Rattle.sl_run.proofs.Splitting.{number_parsed}
-use Rattle.sl_run.proofs.fields.number.Goals as goal
-
-pub returns : goal.returns
-returns c = c.ok.ensures.value ∙ number_parsed c.args.field.now c.parse.result c.parse.ensures.value.0 (sym c.is_number.ensures ∙ c.if-not-is_number.false)

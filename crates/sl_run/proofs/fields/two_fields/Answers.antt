@@ -1,5 +1,0 @@
-use Rattle.sl_run.proofs.Splitting.{three_fields}
-use Rattle.sl_run.proofs.fields.two_fields.Goals as goal
-
-pub returns-in-Some : goal.returns-in-Some
-returns-in-Some c = three_fields c.args.line.now c.in_ok-first.first.now c.in_ok-first.second.now c.in-Some.field-0.0.now c.in-Some.field-0.1.now c.in_ok-first.ensures c.in-Some.ensures
