@@ -8,7 +8,8 @@ written into it. LETTER is H or L. PROGRAM is by default what `rt run` in crates
 
 Reading is what it takes to read the tables and then to refuse an empty document; writing goes from the first
 byte of the result to the last; clearing, with the admissions and counts, is what is left of a whole `clear`.
-Memory is the most that the process had resident.
+`clear` is run on all cores and on one. Reading the result is what it takes beside the tables to refuse it where
+its last record is gone. Memory is the most that the process had resident.
 """
 
 import os
@@ -21,10 +22,16 @@ PROGRAM = os.path.join(HERE, "..", "crates", "scorelimits", "out", "scorelimits"
 TABLES = ("pools.csv", "programmes.csv", "applications.csv")
 
 
-def run(words, result=None):
+def on_one_core():
+    os.sched_setaffinity(0, {min(os.sched_getaffinity(0))})
+
+
+def run(words, result=None, before=None):
     """The status, the seconds until the first byte and in all, and the memory in megabytes."""
     start = time.monotonic()
-    process = subprocess.Popen(words, stdout=subprocess.PIPE, stderr=subprocess.DEVNULL)
+    process = subprocess.Popen(
+        words, stdout=subprocess.PIPE, stderr=subprocess.DEVNULL, preexec_fn=before
+    )
     first = None
     while piece := process.stdout.read(1 << 16):
         first = first or time.monotonic() - start
@@ -57,6 +64,13 @@ def main(words):
     say("clearing", first - reading)
     say("writing", whole - first)
     say(f"clear, status {status}", whole, memory)
+    status, _, whole, memory = run([program, "clear", letter, "1", *tables], None, on_one_core)
+    say(f"on one core, status {status}", whole, memory)
+    without_end = os.path.join(folder, "without_end.csv")
+    with open(document, "rb") as whole_text, open(without_end, "wb") as part:
+        part.writelines(whole_text.readlines()[:-1])
+    _, _, whole, memory = run([program, "check", letter, *tables, without_end])
+    say("reading the result", whole - reading, memory)
     status, _, whole, memory = run([program, "check", letter, *tables, document])
     say(f"check, status {status}", whole, memory)
 

@@ -5,7 +5,8 @@ use Rattle.sl_check.specs.declared.verdict.Verdict.TheVariants.{Yes, RaiseUnjust
 use Rattle.sl_check.specs.Verdict.{IsVerdict}
 use Rattle.sl_codes.specs.Records.{records_of, rows_of}
 use Rattle.sl_codes.specs.declared.faults.Table.TheVariants.{Results}
-use Rattle.sl_instance.specs.NamedMarket.{NamedMarket}
+use Rattle.sl_types.specs.Valid.{IsValid}
+use Rattle.sl_instance.specs.NamedMarket.{NamedMarket, IsNamed}
 use Rattle.sl_doc.specs.Document.{Document}
 use Rattle.sl_doc.specs.Reading.{doc_fault, document_of}
 use Rattle.sl_doc.specs.ResultText.{text_of_record, result_text}
@@ -18,10 +19,13 @@ use Rattle.sl_run.specs.Accepted.{Contents, Holds, HoldTables}
 use Rattle.sl_run.specs.Failures.{status_of, line_of}
 use Rattle.sl_run.specs.Reports.{Reports}
 
--- the files hold the tables of an instance, and the text of its result was written
+-- the files hold the tables of a valid instance, each of whose pools, programmes and applicants has a code of its own, and
+-- the text of its result was written
 pub record IsCleared (contents : Contents) (inputs : Inputs) (IsWritten : List ℕ → Type 0) : Type 0 where
   pub n : NamedMarket
   pub held : HoldTables contents inputs n
+  pub valid : IsValid n.market
+  pub named : IsNamed n
   pub doc : Document
   pub result : IsResultOf n.market doc
   pub written : IsWritten (result_text n inputs.rule doc)
@@ -29,6 +33,8 @@ pub record IsCleared (contents : Contents) (inputs : Inputs) (IsWritten : List �
 -- they hold the tables of this instance and a document of it, on which this is the verdict
 pub record IsJudged (contents : Contents) (inputs : Inputs) (n : NamedMarket) (verdict : Verdict) : Type 0 where
   pub held : HoldTables contents inputs n
+  pub valid : IsValid n.market
+  pub named : IsNamed n
   pub doc : Document
   pub read : Holds contents (inputs.names Results) (λ text. (doc_fault n inputs.rule (records_of text) ≡ None) × (doc ≡ document_of n (rows_of text)))
   pub right : IsVerdict n.market doc.raises doc.limits doc.admitted doc.counts verdict

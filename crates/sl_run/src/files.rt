@@ -6,6 +6,8 @@ ghost use Rattle.sl_codes.specs.declared.faults.Table.TheVariants as table;
 ghost use Rattle.sl_pools.specs.Pools.{pools_of, first_pool_fault};
 ghost use Rattle.sl_pools.specs.Programmes.{programme_form, programmes_of};
 ghost use Rattle.sl_choices.specs.Choices.{choice_form, choices_of};
+ghost use Rattle.sl_types.specs.Valid.{IsValid};
+ghost use Rattle.sl_instance.specs.NamedMarket.{IsNamed};
 ghost use Rattle.sl_run.specs.Clearing.{AreScorePools};
 ghost use Rattle.sl_run.specs.Words.{clear, inputs_of, letter_rule};
 ghost use Rattle.sl_run.specs.Accepted.{HoldTables};
@@ -106,6 +108,8 @@ pub fn read_tables<S: Shelf>(
 ) -> Result<Named, Failure>
     ensures held { IfOk result (λ n. S.tells shelf.old ≡ true → HoldTables (S.contents shelf.old) (inputs_of (clear tables.entry.letter tables.entry.pools.now tables.entry.programmes.now tables.entry.applications.now)) n) }
     ensures cause { IfErr result (IsCause (S.tells shelf.old) (S.contents shelf.old) (clear tables.entry.letter tables.entry.pools.now tables.entry.programmes.now tables.entry.applications.now) (S.faults shelf.old) (S.faults shelf.new)) }
+    ensures valid { IfOk result (λ n. IsValid n.market) }
+    ensures named { IfOk result IsNamed }
     ensures alone { IfOk result (λ n. AreScorePools n.market) }
     ensures late { IfErr result (λ failure. is_of_files failure ≡ true) }
     ensures keeps { KeepsFiles (S.tells shelf.old) (S.tells shelf.new) (S.contents shelf.old) (S.contents shelf.new) (S.faults shelf.old) (S.faults shelf.new) }
@@ -114,7 +118,11 @@ pub fn read_tables<S: Shelf>(
     let progs = fetch_programmes(alloc, shelf, tables.programmes, &pools)?;
     let choices = fetch_applications(alloc, shelf, tables.applications, &pools, &progs)?;
     match assemble(alloc, pools, progs, choices) {
-        Ok(named) => Ok(named),
+        Ok(named) => {
+            // An instance is valid, and its codes are codes.
+            let _pools = named.instance().pools();
+            Ok(named)
+        }
         Err(error) => Err(Failure::from(error)),
     }
 }

@@ -77,21 +77,24 @@ fn swapped_admissions(rt: HostRuntime) -> Result<(), Fail> {
 #[test]
 fn refused_documents(rt: HostRuntime) -> Result<(), Fail> {
     for (document, line) in [
-        ("result,2,,\n", "result:1: BadHeader\n"),
         (
-            "result,1,,\nrule,H,,\nlimit,B,11,1\nlimit,A,11,1\nend,4,,\n",
+            "result,2,,\nrule,H,,\nlimit,A,11,1\nlimit,B,11,1\nadmit,x,0,\nadmit,y,2,a\nadmit,z,1,b\nraise,B,10,\nraise,A,11,\nraise,B,11,\nend,10,,\n",
+            "result:1: BadHeader\n",
+        ),
+        (
+            "result,1,,\nrule,H,,\nlimit,B,11,1\nlimit,A,11,1\nadmit,x,0,\nadmit,y,2,a\nadmit,z,1,b\nraise,B,10,\nraise,A,11,\nraise,B,11,\nend,10,,\n",
             "result:3: OutOfOrder\n",
         ),
         (
-            "result,1,,\nrule,H,,\nlimit,A,11,1\nlimit,B,11,1\nadmit,x,0,\nadmit,y,1,a\nend,6,,\n",
+            "result,1,,\nrule,H,,\nlimit,A,11,1\nlimit,B,11,1\nadmit,x,0,\nadmit,y,1,a\nadmit,z,1,b\nraise,B,10,\nraise,A,11,\nraise,B,11,\nend,10,,\n",
             "result:6: UnknownChoice\n",
         ),
         (
-            "result,1,,\nrule,H,,\nlimit,A,11,1\nlimit,B,11,1\nadmit,x,0,\nadmit,y,2,a\nadmit,z,1,b\nraise,Z,10,\nend,8,,\n",
+            "result,1,,\nrule,H,,\nlimit,A,11,1\nlimit,B,11,1\nadmit,x,0,\nadmit,y,2,a\nadmit,z,1,b\nraise,Z,10,\nraise,A,11,\nraise,B,11,\nend,10,,\n",
             "result:8: UnknownPool\n",
         ),
         (
-            "result,1,,\nrule,H,,\nlimit,A,11,1\nlimit,B,11,1\nadmit,x,0,\nadmit,y,2,a\nadmit,z,1,b\nraise,B,0,\nend,8,,\n",
+            "result,1,,\nrule,H,,\nlimit,A,11,1\nlimit,B,11,1\nadmit,x,0,\nadmit,y,2,a\nadmit,z,1,b\nraise,B,0,\nraise,A,11,\nraise,B,11,\nend,10,,\n",
             "result:8: BadNumber\n",
         ),
         (

@@ -172,12 +172,14 @@ fn first_refused_file(rt: HostRuntime) -> Result<(), Fail> {
     expect(&rt, "a failing file", &CLEAR, failing, unread)
 }
 
-// The tables of so many programmes of the pool A, and of one applicant who chose each.
+// The tables of 65 programmes of the pool A, and of one applicant who chose so many of them.
 fn list_of(alloc: Global, choices: u32) -> Result<(String, String), AllocError> {
     let mut programmes = String::from_str(alloc, "programme,pool\n")?;
+    for number in 1..=65 {
+        programmes.push_str(&format!(in alloc; "p{number},A\n")?)?;
+    }
     let mut applications = String::from_str(alloc, NOBODY)?;
     for place in 1..=choices {
-        programmes.push_str(&format!(in alloc; "p{place},A\n")?)?;
         applications.push_str(&format!(in alloc; "x,{place},p{place},10\n")?)?;
     }
     Ok((programmes, applications))

@@ -4,6 +4,15 @@ use Rattle.sl_run.specs.Words.{check}
 use Rattle.sl_run.proofs.Writing.{one_of_both, only_fault, same_failure, write_cause}
 use Rattle.sl_run.proofs.check.check_to.Goals as goal
 
+pub returns-in-Ok-clause-checked : goal.returns-in-Ok-clause-checked
+returns-in-Ok-clause-checked g c = λ tells. record {
+  n = c.in_ok-named.named;
+  verdict = c.in_ok-named.verdict;
+  judged = c.in_ok-named.ensures.judged tells;
+  ends = c.verdict_status.ensures.status;
+  written = c.in-Ok.ensures.text;
+}
+
 pub returns-clause-broken_off : goal.returns-clause-broken_off
 returns-clause-broken_off g c = λ failed tells. (
   status_of_verdict c.in_ok-named.verdict,

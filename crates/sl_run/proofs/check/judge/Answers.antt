@@ -45,6 +45,8 @@ returns-in-Ok-clause-judged g c = λ t.
     let rule = letter_rule c.args.tables.letter in
     record {
       held = c.in_ok-named.ensures.held t;
+      valid = c.in_ok-named.ensures.valid;
+      named = c.in_ok-named.ensures.named;
       doc = c.in_ok-doc.doc;
       read = told_before (g.S.Shelf.tells shelf) (g.S.Shelf.tells later) (g.S.Shelf.contents shelf) (g.S.Shelf.contents later) (g.S.Shelf.faults shelf) (g.S.Shelf.faults later) c.args.document.now
           (λ text. (doc_fault n rule (records_of text) ≡ None) × (c.in_ok-doc.doc ≡ document_of n (rows_of text))) c.in_ok-named.ensures.keeps c.in_ok-doc.ensures.document t;

@@ -7,6 +7,8 @@ pub returns-clause-partly : goal.returns-clause-partly
 returns-clause-partly g c = λ failed. inr (λ tells. record {
   n = c.in_ok-named.named;
   held = c.in_ok-named.ensures.held tells;
+  valid = c.in_ok-named.ensures.valid;
+  named = c.in_ok-named.ensures.named;
   doc = c.in_ok-doc.doc;
   result = c.in_ok-doc.ensures.result;
   written = rw (sym c.rule.ensures.rule) c.in-Err.ensures.part;
