@@ -1,4 +1,4 @@
-//! Clears a round of admissions from the command line.
+//! Clears a round of admissions, or checks a published result, from the command line.
 #![tactic(auto)]
 
 ghost use Rattle.std.specs.Prelude.{◌≡◌, ◌↔◌, map, string_bytes};
