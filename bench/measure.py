@@ -1,78 +1,113 @@
 #!/usr/bin/env python3
-"""Runs the built program over the tables of a folder, and says how long each part took. It is no test.
+"""Runs built programs over the tables of a folder, several times each in turn, and says how long they took and
+how much memory they had. It is no test.
 
-    measure.py FOLDER [LETTER] [PROGRAM]
+    measure.py FOLDER [LETTER [PROGRAM ..]]
 
-FOLDER has pools.csv, programmes.csv and applications.csv, as make_tables.py writes them; result.csv is
-written into it. LETTER is H or L. PROGRAM is by default what `rt run` in crates/scorelimits has built.
+FOLDER has pools.csv, programmes.csv and applications.csv, as make_tables.py writes them; result.csv is written
+into it. LETTER is H or L. A PROGRAM is one that `rt run` in crates/scorelimits has built, by default the one
+that lies there; several are compared over the same tables in one run. Where bench/plain is built it runs beside
+them, and ratios to it are said.
 
-Reading is what it takes to read the tables and then to refuse an empty document; writing goes from the first
-byte of the result to the last; clearing, with the admissions and counts, is what is left of a whole `clear`.
-`clear` is run on all cores and on one. Reading the result is what it takes beside the tables to refuse it where
-its last record is gone. Memory is the most that the process had resident.
+User time is what the processor worked; elapsed time goes by the clock. Of several runs the median is said, with
+the least and the greatest. Memory is the most that a process had resident. Reading is what it takes to read the
+tables and then to refuse an empty document; writing goes from the first byte of the result to the last; clearing,
+with the admissions and counts, is what is left of a whole `clear`.
 """
 
 import os
+import statistics
 import subprocess
 import sys
 import time
 
+RUNS = 5
 HERE = os.path.dirname(os.path.abspath(__file__))
 PROGRAM = os.path.join(HERE, "..", "crates", "scorelimits", "out", "scorelimits")
+PLAIN = os.path.join(HERE, "plain", "target", "release", "plain")
 TABLES = ("pools.csv", "programmes.csv", "applications.csv")
 
 
-def on_one_core():
-    os.sched_setaffinity(0, {min(os.sched_getaffinity(0))})
+class Run:
+    """One run of a program: its status, times in seconds, and memory in megabytes."""
+
+    def __init__(self, words, result=os.devnull):
+        start = time.monotonic()
+        process = subprocess.Popen(words, stdout=subprocess.PIPE, stderr=subprocess.DEVNULL)
+        self.first = None
+        with open(result, "wb") as out:
+            while piece := process.stdout.read(1 << 16):
+                self.first = self.first or time.monotonic() - start
+                out.write(piece)
+        _, status, usage = os.wait4(process.pid, 0)
+        process.stdout.close()
+        self.elapsed = time.monotonic() - start
+        self.first = self.first or self.elapsed
+        self.status = os.waitstatus_to_exitcode(status)
+        self.user = usage.ru_utime
+        self.memory = usage.ru_maxrss / 1024
 
 
-def run(words, result=None, before=None):
-    """The status, the seconds until the first byte and in all, and the memory in megabytes."""
-    start = time.monotonic()
-    process = subprocess.Popen(
-        words, stdout=subprocess.PIPE, stderr=subprocess.DEVNULL, preexec_fn=before
-    )
-    first = None
-    while piece := process.stdout.read(1 << 16):
-        first = first or time.monotonic() - start
-        if result is not None:
-            result.write(piece)
-    _, status, usage = os.wait4(process.pid, 0)
-    whole = time.monotonic() - start
-    return os.waitstatus_to_exitcode(status), first or whole, whole, usage.ru_maxrss // 1024
+def in_turn(commands):
+    """The runs of each command, one of each after another, so that a busy moment meets all of them."""
+    runs = [[] for _ in commands]
+    for _ in range(RUNS):
+        for mine, words in zip(runs, commands):
+            mine.append(Run(words))
+    return runs
 
 
-def say(name, seconds, megabytes=None):
-    print(f"{name:<22}{seconds:8.2f} s" + (f"{megabytes:8} MB" if megabytes is not None else ""))
+def spread(values):
+    return f"{statistics.median(values):7.2f} s ({min(values):.2f} to {max(values):.2f})"
+
+
+def median(runs, what):
+    return statistics.median(getattr(run, what) for run in runs)
+
+
+def say(name, runs):
+    user, elapsed = ([getattr(run, what) for run in runs] for what in ("user", "elapsed"))
+    print(f"{name:<24} user {spread(user)}  elapsed {spread(elapsed)} {median(runs, 'memory'):6.0f} MB")
+
+
+def compare(name, runs, other, others):
+    user, memory = (median(runs, what) / median(others, what) for what in ("user", "memory"))
+    print(f"{name} beside {other}: {user:.2f} of the user time, {memory:.2f} of the memory")
+
+
+def parts(program, letter, tables, document):
+    """How long the parts of a command take, once each."""
+    reading = Run([program, "check", letter, *tables, os.devnull])
+    clear = Run([program, "clear", letter, "1", *tables], document)
+    check = Run([program, "check", letter, *tables, document])
+    print(f"reading {reading.elapsed:.2f} s, clearing {clear.first - reading.elapsed:.2f} s, "
+          f"writing {clear.elapsed - clear.first:.2f} s (status {clear.status}); "
+          f"checking the result {check.elapsed:.2f} s, {check.memory:.0f} MB (status {check.status})")
 
 
 def main(words):
-    if not 1 <= len(words) <= 3:
+    if not words:
         sys.exit(__doc__)
-    folder = words[0]
-    letter = words[1] if len(words) > 1 else "H"
-    program = words[2] if len(words) > 2 else PROGRAM
+    folder, letter = words[0], words[1] if len(words) > 1 else "H"
+    programs = words[2:] or [PROGRAM]
     tables = [os.path.join(folder, name) for name in TABLES]
-    document = os.path.join(folder, "result.csv")
-    start = time.monotonic()
-    subprocess.run(["wc", "-l", *tables], check=True)
-    say("wc -l", time.monotonic() - start)
-    _, _, reading, memory = run([program, "check", letter, *tables, os.devnull])
-    say("reading the tables", reading, memory)
-    with open(document, "wb") as result:
-        status, first, whole, memory = run([program, "clear", letter, "1", *tables], result)
-    say("clearing", first - reading)
-    say("writing", whole - first)
-    say(f"clear, status {status}", whole, memory)
-    status, _, whole, memory = run([program, "clear", letter, "1", *tables], None, on_one_core)
-    say(f"on one core, status {status}", whole, memory)
-    without_end = os.path.join(folder, "without_end.csv")
-    with open(document, "rb") as whole_text, open(without_end, "wb") as part:
-        part.writelines(whole_text.readlines()[:-1])
-    _, _, whole, memory = run([program, "check", letter, *tables, without_end])
-    say("reading the result", whole - reading, memory)
-    status, _, whole, memory = run([program, "check", letter, *tables, document])
-    say(f"check, status {status}", whole, memory)
+    with open(tables[2], "rb") as rows:
+        count = sum(1 for _ in rows) - 1
+    print(f"{folder}, rule {letter}: {count} choices; {os.cpu_count()} cores, {RUNS} runs each")
+    parts(programs[-1], letter, tables, os.path.join(folder, "result.csv"))
+    commands = [[program, "clear", letter, "1", *tables] for program in programs]
+    names = [os.path.relpath(program, HERE) for program in programs]
+    if os.path.exists(PLAIN):
+        commands.append([PLAIN, letter, *tables])
+        names.append("plain")
+    measured = in_turn(commands)
+    for name, runs in zip(names, measured):
+        say(name, runs)
+    for at in range(1, len(programs)):
+        compare(names[at], measured[at], names[0], measured[0])
+    if names[-1] == "plain":
+        for at in range(len(programs)):
+            compare(names[at], measured[at], "plain", measured[-1])
 
 
 if __name__ == "__main__":

@@ -1,8 +1,11 @@
 //! Clears a round of admissions, or checks a published result, from the command line.
 #![tactic(auto)]
 
-ghost use Rattle.std.specs.Prelude.{◌≡◌, ◌↔◌, map, string_bytes};
-ghost use Rattle.sl_run.specs.Words.{AreNoCommand};
+ghost use Rattle.std.specs.Prelude.{◌≡◌, ◌⊎◌, ◌↔◌};
+ghost use Rattle.std.specs.Process.{exit_status};
+ghost use Rattle.sl_io.specs.Sink.{RoseIn};
+ghost use Rattle.sl_run.specs.Run.{EndsUntold};
+ghost use Rattle.sl_run.specs.Words.{texts_of, AreNoCommand, IsCheck};
 
 use sl_io::{FileShelf, OutSink, Sink};
 use sl_run::run;
@@ -20,17 +23,24 @@ fn words_after_name<R: Env + AllocGlobal>(rt: &R) -> io::Result<Vec<String>> {
     Ok(words)
 }
 
-// Carries out a command over the files. Answers the status.
+// Carries out a command over the files, and ends with its status. What files hold is told to nobody, so the
+// clauses say what is known without that.
 fn carry_out<R: Files + AllocGlobal + Threads + Sync, O: Sink, E: Sink>(
     rt: &R,
     words: &[String],
     out: &mut O,
     err: &mut E,
-) -> u8
-    ensures { (result ≡ 2) ↔ AreNoCommand (map (λ w. string_bytes w) words.now) }
+) -> ExitCode
+    ensures words { (exit_status result ≡ 2) ↔ AreNoCommand (texts_of words.now) }
+    ensures judged { exit_status result ≡ 1 → IsCheck (texts_of words.now) }
+    ensures nothing { let status = exit_status result in
+        (status ≡ 2) ⊎ (status ≡ 3) ⊎ (status ≡ 4) → out.new ≡ out.old }
+    ensures unwritable { exit_status result ≡ 5 → RoseIn (O.output out.old) (O.output out.new) }
+    ensures ended { let texts = texts_of words.now in
+        EndsUntold texts (E.output err.old) (E.output err.new) (exit_status result) }
 {
     let mut shelf = FileShelf::new(rt);
-    run(rt, rt.alloc(), words, &mut shelf, out, err)
+    ExitCode::from(run(rt, rt.alloc(), words, &mut shelf, out, err))
 }
 
 fn main(rt: HostRuntime) -> ExitCode {
@@ -42,5 +52,5 @@ fn main(rt: HostRuntime) -> ExitCode {
     };
     let mut out = OutSink::new(rt.stdout());
     let mut err = OutSink::new(rt.stderr());
-    ExitCode::from(carry_out(&rt, &words, &mut out, &mut err))
+    carry_out(&rt, &words, &mut out, &mut err)
 }

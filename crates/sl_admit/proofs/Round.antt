@@ -1,14 +1,10 @@
 -- One more in a pool and in each pool round it: none of these comes twice.
-use Rattle.std.proofs.Common.{◌≡◌, ℕ, zero, suc, ◌+◌, ◌-◌, ◌<◌, ◌≤◌, Bool, true, false, ◌||◌, List, length, set, nat_eq, slice_index, Option, Some, None, refl, sym, ap, ◌∙◌, arith, inl, inr, ⊎_elim, true≢false, eqb-true, eq-eqb, get_or-set_other}
-use Rattle.std.proofs.lemmas.Bool.{cases_Bool, eqb-false, or_cases}
+use Rattle.std.proofs.Common.{◌≡◌, ℕ, ◌+◌, ◌<◌, ◌≤◌, Bool, true, false, ◌||◌, List, [], ◌∷◌, length, set, nat_eq, slice_index, refl, ap, ◌∙◌, arith, inl, inr, eqb-true, get_or-set_other, sym}
+use Rattle.std.specs.List.{list_any, IsDistinct, AllByRecursion}
+use Rattle.std.proofs.lemmas.Bool.{cases_Bool, eqb-false}
 use Rattle.std.proofs.lemmas.Grind.{get_or-set_at}
-use Rattle.sl_types.specs.declared.kinds.PoolId.{PoolId}
-use Rattle.sl_types.specs.declared.kinds.TheConstants.{MAX_DEPTH}
-use Rattle.sl_types.specs.Market.{Market, parent_of, is_parent, climb, outward}
-use Rattle.sl_types.specs.WellFormed.{IsWellFormed}
-use Rattle.sl_laws.proofs.Effective.{among}
-use Rattle.sl_laws.proofs.Nest.{depth, depth_child}
-use Rattle.sl_laws.proofs.Steps.{is_met_from, met_more}
+use Rattle.std.proofs.lemmas.Map.Keys.{IsDistinct-head}
+use Rattle.sl_types.proofs.Walks.{flip}
 use Rattle.sl_admit.specs.Counting.{one_if}
 
 -- it is one at most
@@ -16,42 +12,24 @@ pub at_most_one : (b : Bool) → one_if b ≤ 1
 at_most_one true = omega arith
 at_most_one false = omega arith
 
-module _ (market : Market) (ok : IsWellFormed market) where
-  -- the pools round a pool are less deep
-  less_deep : (n Q P : ℕ) (o : Option PoolId) → parent_of market P ≡ o → among Q (outward (climb market n) o) ≡ true → depth market Q < depth market P
-  unfolding climb
-  less_deep n Q P None e h = absurd (true≢false (sym h))
-  less_deep zero Q P (Some R) e h = absurd (true≢false (sym h))
-  less_deep (suc n) Q P (Some R) e h =
-      let one = depth_child market ok R.0 P (ap (is_parent R.0) e ∙ eq-eqb R.0 R.0 refl) in
-      ⊎_elim
-      (λ k. let same : depth market R.0 ≡ depth market Q = ap (depth market) (eqb-true R.0 Q k) in omega (arith, one, same))
-      (λ k. let further = less_deep n Q R.0 (parent_of market R.0) refl k in omega (arith, one, further))
-      (or_cases (nat_eq R.0 Q) (among Q (outward (climb market n) (parent_of market R.0))) h)
+-- a pool that differs from each of a list isn't in it
+not_met : (P : ℕ) (Qs : List ℕ) → AllByRecursion (λ Q. nat_eq P Q ≡ false) Qs → list_any (λ Q. nat_eq Q P) Qs ≡ false
+not_met P [] h = refl
+not_met P (Q ∷ Qs) h = ap (λ b. b || list_any (λ Q. nat_eq Q P) Qs) (flip Q P ∙ h.0) ∙ not_met P Qs h.1
 
-  -- no pool lies round itself
-  never_round : (n P : ℕ) → is_met_from market P n (parent_of market P) ≡ false
-  unfolding is_met_from
-  never_round n P = elim (cases_Bool (among P (outward (climb market n) (parent_of market P)))) [
-    | inl there ↦ let less = less_deep n P P (parent_of market P) refl there in absurd (omega (arith, less))
-    | inr none ↦ none
-  ]
-
-  -- one pool counted
-  pub one_counted : (counts next : List ℕ) (i : ℕ) (here : PoolId) → i < MAX_DEPTH → here.0 < length counts → next ≡ set counts here.0 (slice_index counts here.0 + 1)
-      → (P : ℕ) → slice_index next P + one_if (is_met_from market P (MAX_DEPTH - (i + 1)) (parent_of market here.0)) ≡ slice_index counts P + one_if (is_met_from market P (MAX_DEPTH - i) (Some here))
-  one_counted counts next i here low within is P = elim (cases_Bool (nat_eq here.0 P)) [
-    | inl same ↦
-        let e = eqb-true here.0 P same in
-        let value : slice_index next P ≡ slice_index counts P + 1 = ap (λ xs. slice_index xs P) is ∙ get_or-set_at counts here.0 P (slice_index counts here.0 + 1) 0 (sym e) within ∙ ap (λ Q. slice_index counts Q + 1) e in
-        let gone : is_met_from market P (MAX_DEPTH - (i + 1)) (parent_of market here.0) ≡ false = ap (λ Q. is_met_from market P (MAX_DEPTH - (i + 1)) (parent_of market Q)) e ∙ never_round (MAX_DEPTH - (i + 1)) P in
-        let met : is_met_from market P (MAX_DEPTH - i) (Some here) ≡ true = met_more market P i here low ∙ ap (λ b. b || is_met_from market P (MAX_DEPTH - (i + 1)) (parent_of market here.0)) same in
-        let before = ap one_if met in
-        let after = ap one_if gone in
-        omega (arith, value, before, after)
-    | inr other ↦
-        let value : slice_index next P ≡ slice_index counts P = ap (λ xs. slice_index xs P) is ∙ get_or-set_other counts here.0 P (slice_index counts here.0 + 1) 0 (λ e. eqb-false here.0 P other (sym e)) in
-        let met : is_met_from market P (MAX_DEPTH - i) (Some here) ≡ is_met_from market P (MAX_DEPTH - (i + 1)) (parent_of market here.0) = met_more market P i here low ∙ ap (λ b. b || is_met_from market P (MAX_DEPTH - (i + 1)) (parent_of market here.0)) other in
-        let both = ap one_if met in
-        omega (arith, value, both)
-  ]
+-- one pool counted, that isn't among those left
+pub one_counted : (counts : List ℕ) (here : ℕ) (rest : List ℕ) (P : ℕ) → here < length counts → IsDistinct nat_eq (here ∷ rest)
+    → slice_index (set counts here (slice_index counts here + 1)) P + one_if (list_any (λ Q. nat_eq Q P) rest) ≡ slice_index counts P + one_if (list_any (λ Q. nat_eq Q P) (here ∷ rest))
+one_counted counts here rest P within once = elim (cases_Bool (nat_eq here P)) [
+  | inl same ↦
+      let e = eqb-true here P same in
+      let value : slice_index (set counts here (slice_index counts here + 1)) P ≡ slice_index counts P + 1 = get_or-set_at counts here P (slice_index counts here + 1) 0 (sym e) within ∙ ap (λ Q. slice_index counts Q + 1) e in
+      let others : list_any (λ Q. nat_eq Q P) rest ≡ false = ap (λ R. list_any (λ Q. nat_eq Q R) rest) (sym e) ∙ not_met here rest (IsDistinct-head nat_eq here rest once) in
+      let before = ap one_if (ap (λ b. b || list_any (λ Q. nat_eq Q P) rest) same) in
+      let after = ap one_if others in
+      omega (arith, value, before, after)
+  | inr other ↦
+      let value : slice_index (set counts here (slice_index counts here + 1)) P ≡ slice_index counts P = get_or-set_other counts here P (slice_index counts here + 1) 0 (λ e. eqb-false here P other (sym e)) in
+      let both = ap one_if (ap (λ b. b || list_any (λ Q. nat_eq Q P) rest) other) in
+      omega (arith, value, both)
+]

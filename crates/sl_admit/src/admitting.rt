@@ -2,24 +2,26 @@ ghost use Rattle.std.specs.Prelude.{◌≡◌, ◌<◌, ◌^◌, All, length, ma
 ghost use Rattle.std.specs.List.{position_or_len};
 ghost use Rattle.sl_types.specs.Market.{list_of};
 ghost use Rattle.sl_laws.specs.Outcome.{admitted_indexes};
-ghost use Rattle.sl_admit.specs.Admitting.{published_limits, reaches};
+ghost use Rattle.sl_admit.specs.Admitting.{published_limits, reaches, first_reaching};
 
 use rayon::prelude::*;
-use sl_laws::plain_eff;
-use sl_types::{AppId, Entry, Instance, OutOfMemory, PoolId};
+use sl_nesting::published;
+use sl_types::{AppId, Entry, Instance, OutOfMemory};
 use std::alloc::{AllocError, Global};
 use std::thread::Threads;
 
 // The effective limit of each pool.
-fn published(alloc: Global, instance: &Instance, limits: &[u32]) -> Result<Vec<u32>, AllocError>
+fn published_limits(
+    alloc: Global,
+    instance: &Instance,
+    limits: &[u32],
+) -> Result<Vec<u32>, AllocError>
     requires { length limits.now ≡ length instance.now.pools }
     ensures { IfOk result (λ v. v.items ≡ published_limits instance.now (slice_index limits.now)) }
 {
-    let mut published = Vec::with_capacity(alloc, instance.pools())?;
-    for number in 0..instance.pools() {
-        published.push(plain_eff(instance, limits, PoolId(number as u32)))?;
-    }
-    Ok(published)
+    let mut out = vec![in alloc; 0; instance.pools()]?;
+    published(instance, limits, &mut out);
+    Ok(out)
 }
 
 // Whether the score of a choice is at least the number of its pool.
@@ -47,7 +49,7 @@ fn first_reaching(instance: &Instance, published: &[u32], choices: &[Entry]) -> 
 fn admitted_index(instance: &Instance, published: &[u32], app: AppId) -> u32
     requires sizes { length published.now ≡ length instance.now.pools }
     requires within { app.0 < length instance.now.lists }
-    ensures { result ≡ position_or_len (reaches instance.now (slice_index published.now)) (list_of instance.now app.0) }
+    ensures { result ≡ first_reaching instance.now published.now (list_of instance.now app.0) }
 {
     let choices = instance.list(app);
     first_reaching(instance, published, choices).unwrap_or(choices.len()) as u32
@@ -61,14 +63,17 @@ fn admitted_indexes(
     published: &[u32],
 ) -> Result<Vec<u32>, AllocError>
     requires { length published.now ≡ length instance.now.pools }
-    ensures { IfOk result (λ v. v.items ≡ map (λ choices. position_or_len (reaches instance.now (slice_index published.now)) choices) instance.now.lists) }
+    ensures { let first = first_reaching instance.now published.now in
+        IfOk result (λ v. v.items ≡ map (λ choices. first choices) instance.now.lists) }
 {
     (0..instance.applicants())
         .into_par_iter()
         .map(
             |number: usize| -> u32
-                requires { (number < length instance.now.lists) × (number < 2 ^ 32) × (length published.now ≡ length instance.now.pools) }
-                ensures { result ≡ position_or_len (reaches instance.entry.now (slice_index published.entry.now)) (list_of instance.entry.now number) }
+                requires { (number < length instance.now.lists) × (number < 2 ^ 32)
+                    × (length published.now ≡ length instance.now.pools) }
+                ensures { let choices = list_of instance.entry.now number in
+                    result ≡ first_reaching instance.entry.now published.entry.now choices }
             { admitted_index(instance, published, AppId(number as u32)) },
         )
         .collect(rt, alloc)
@@ -89,11 +94,7 @@ pub fn admissions(
 {
     // An instance is well formed: each choice is in a pool.
     let _pools = instance.pools();
-    let Ok(published) = published(alloc, instance, limits) else {
-        return Err(OutOfMemory);
-    };
-    match admitted_indexes(rt, alloc, instance, &published) {
-        Ok(admitted) => Ok(admitted),
-        Err(_) => Err(OutOfMemory),
-    }
+    let published = published_limits(alloc, instance, limits)?;
+    let admitted = admitted_indexes(rt, alloc, instance, &published)?;
+    Ok(admitted)
 }

@@ -1,29 +1,20 @@
-ghost use Rattle.std.specs.Prelude.{◌≡◌, ◌<◌, ◌+◌, ℕ, length, slice_get, slice_index, IfOk};
-ghost use Rattle.sl_types.specs.Market.{lies_in, list_of};
-ghost use Rattle.sl_laws.specs.Limits.{Limits};
-ghost use Rattle.sl_laws.specs.Outcome.{admitted_indexes, counts_in};
-ghost use Rattle.sl_admit.specs.Counting.{one_if, is_in, counts_of};
+ghost use Rattle.std.specs.Prelude.{◌≡◌, ◌<◌, ℕ, length, slice_get, slice_index, IfOk};
+ghost use Rattle.sl_types.specs.Market.{list_of};
+ghost use Rattle.sl_admit.specs.Counting.{counts_of, HaveRoom, CountsRound, CountsChoice, AreCountsAtLimits};
 
-use sl_types::{AppId, Instance, MAX_APPLICANTS, MAX_DEPTH, OutOfMemory, PoolId};
+use sl_types::{AppId, Instance, OutOfMemory, PoolId};
 use std::alloc::Global;
 
 // One more in a pool and in each pool round it.
 fn count_round(instance: &Instance, counts: &mut [u32], pool: PoolId)
     requires sizes { length counts.old ≡ length instance.now.pools }
     requires within { pool.0 < length instance.now.pools }
-    requires room { (P : ℕ) → P < length instance.now.pools → slice_index counts.old P < MAX_APPLICANTS }
-    ensures counts { (P : ℕ) → P < length instance.now.pools → slice_index counts.new P ≡ slice_index counts.old P + one_if (lies_in instance.now pool.0 P) }
+    requires room { HaveRoom instance.now counts.old }
+    ensures counts { CountsRound instance.now pool.0 counts.old counts.new }
     ensures sizes { length counts.new ≡ length counts.old }
 {
-    // An instance is well formed: no pool is met twice on the way out.
-    let _pools = instance.pools();
-    let mut next = Some(pool);
-    for _ in 0..MAX_DEPTH {
-        let Some(here) = next else {
-            return;
-        };
+    for here in instance.outward(pool) {
         counts[here.0 as usize] += 1;
-        next = instance.pool(here).parent;
     }
 }
 
@@ -31,8 +22,9 @@ fn count_round(instance: &Instance, counts: &mut [u32], pool: PoolId)
 fn count_choice(instance: &Instance, counts: &mut [u32], app: AppId, index: u32)
     requires sizes { length counts.old ≡ length instance.now.pools }
     requires within { app.0 < length instance.now.lists }
-    requires room { (P : ℕ) → P < length instance.now.pools → slice_index counts.old P < MAX_APPLICANTS }
-    ensures counts { (P : ℕ) → P < length instance.now.pools → slice_index counts.new P ≡ slice_index counts.old P + one_if (is_in instance.now P (slice_get (list_of instance.now app.0) index)) }
+    requires room { HaveRoom instance.now counts.old }
+    ensures counts { let choice = slice_get (list_of instance.now app.0) index in
+        CountsChoice instance.now choice counts.old counts.new }
     ensures sizes { length counts.new ≡ length counts.old }
 {
     if let Some(choice) = instance.list(app).get(index as usize) {
@@ -46,7 +38,7 @@ fn count_each(instance: &Instance, counts: &mut [u32], admitted: &[u32])
     requires zeros { (P : ℕ) → P < length instance.now.pools → slice_index counts.old P ≡ 0 }
     requires each { length admitted.now ≡ length instance.now.lists }
     ensures counts { counts.new ≡ counts_of instance.now admitted.now }
-    ensures of_limits { (t : Limits) → admitted.now ≡ admitted_indexes instance.now t → counts.new ≡ counts_in instance.now t }
+    ensures of_limits { AreCountsAtLimits instance.now admitted.now counts.new }
 {
     for number in 0..instance.applicants() {
         count_choice(instance, counts, AppId(number as u32), admitted[number]);
@@ -59,11 +51,9 @@ fn count_each(instance: &Instance, counts: &mut [u32], admitted: &[u32])
 pub fn counts(alloc: Global, instance: &Instance, admitted: &[u32]) -> Result<Vec<u32>, OutOfMemory>
     requires each { length admitted.now ≡ length instance.now.lists }
     ensures counts { IfOk result (λ v. v.items ≡ counts_of instance.now admitted.now) }
-    ensures of_limits { IfOk result (λ v. (t : Limits) → admitted.now ≡ admitted_indexes instance.now t → v.items ≡ counts_in instance.now t) }
+    ensures of_limits { IfOk result (λ v. AreCountsAtLimits instance.now admitted.now v.items) }
 {
-    let Ok(mut counts) = vec![in alloc; 0u32; instance.pools()] else {
-        return Err(OutOfMemory);
-    };
+    let mut counts = vec![in alloc; 0u32; instance.pools()]?;
     count_each(instance, &mut counts, admitted);
     Ok(counts)
 }

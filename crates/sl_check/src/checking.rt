@@ -18,7 +18,8 @@ fn first_unjust<R: RaiseRule>(rule: &R, replay: &mut Replay, raises: &[Raise]) -
     requires covered { CoversAll R.covers rule.now replay.old.instance }
     requires within { All (λ r. r.pool.0 < length replay.old.instance.pools) raises.now }
     requires few { length raises.now < 2 ^ 32 }
-    ensures first { MatchOption result (HasReplayed replay.new raises.now) (λ k. IsFirstUnjust replay.old.instance raises.now k) }
+    ensures first { MatchOption result (HasReplayed replay.new raises.now)
+        (IsFirstUnjust replay.old.instance raises.now) }
     ensures instance { replay.new.instance ≡ replay.old.instance }
 {
     for (index, raise) in raises.iter().enumerate() {
@@ -51,7 +52,8 @@ pub fn check<R: RaiseRule>(
     requires each_limit { length limits.now ≡ length instance.now.pools }
     requires each_admission { length admitted.now ≡ length instance.now.lists }
     requires each_count { length counts.now ≡ length instance.now.pools }
-    ensures verdict { IfOk result (λ v. IsVerdict instance.now raises.now limits.now admitted.now counts.now v) }
+    ensures verdict { IfOk result
+        (IsVerdict instance.now raises.now limits.now admitted.now counts.now) }
     ensures least { result ≡ Ok Yes → IsLeastStable instance.now (slice_index limits.now) }
 {
     let _pools = instance.pools();

@@ -9,6 +9,3 @@ mod verdict;
 pub use checking::check;
 pub use theorems::verdict_is_one;
 pub use verdict::Verdict;
-
-#[cfg(test)]
-mod tests;

@@ -1,10 +1,8 @@
 // The lowest pool or applicant of each kind of fault.
-ghost use Rattle.std.specs.Prelude.{◌≡◌, ◌<◌, ℕ, length, slice_index, MatchOption, IfOk};
-ghost use Rattle.sl_laws.specs.Limits.{Limits};
+ghost use Rattle.std.specs.Prelude.{◌≡◌, length, slice_index, IfOk};
 ghost use Rattle.sl_laws.specs.Stable.{IsSettled};
-ghost use Rattle.sl_laws.specs.Outcome.{admitted_indexes};
 ghost use Rattle.sl_contend.specs.Rule.{CoversAll};
-ghost use Rattle.sl_check.specs.Verdict.{IsLowestWithout, IsLimit, IsAdmission, IsCount, AreSettled};
+ghost use Rattle.sl_check.specs.Verdict.{IsLowestPool, IsLowestApplicant, IsLowestMiscount, IsLimit, IsAdmission};
 
 use sl_contend::RaiseRule;
 use sl_laws::{plain_admit, plain_eff};
@@ -16,7 +14,8 @@ use std::alloc::Global;
 pub fn unsettled<R: RaiseRule>(rule: &R, instance: &Instance, replay: &mut Replay) -> Option<PoolId>
     requires instance { replay.old.instance ≡ instance.now }
     requires covered { CoversAll R.covers rule.now instance.now }
-    ensures lowest { MatchOption result (AreSettled instance.now (slice_index replay.old.limits)) (λ P. IsLowestWithout (length instance.now.pools) (IsSettled instance.now (slice_index replay.old.limits)) P.0) }
+    ensures lowest { let settled = IsSettled instance.now (slice_index replay.old.limits) in
+        IsLowestPool instance.now settled result }
     ensures same { replay.new ≡ replay.old }
 {
     for number in 0..instance.pools() {
@@ -32,7 +31,8 @@ pub fn unsettled<R: RaiseRule>(rule: &R, instance: &Instance, replay: &mut Repla
 pub fn wrong_limit(instance: &Instance, reached: &[u32], limits: &[u32]) -> Option<PoolId>
     requires sizes { length reached.now ≡ length instance.now.pools }
     requires each { length limits.now ≡ length instance.now.pools }
-    ensures { MatchOption result ((P : ℕ) → P < length instance.now.pools → IsLimit instance.now (slice_index reached.now) limits.now P) (λ P. IsLowestWithout (length instance.now.pools) (IsLimit instance.now (slice_index reached.now) limits.now) P.0) }
+    ensures { let is_right = IsLimit instance.now (slice_index reached.now) limits.now in
+        IsLowestPool instance.now is_right result }
 {
     for number in 0..instance.pools() {
         let pool = PoolId(number as u32);
@@ -48,7 +48,8 @@ pub fn wrong_limit(instance: &Instance, reached: &[u32], limits: &[u32]) -> Opti
 pub fn wrong_admission(instance: &Instance, limits: &[u32], admitted: &[u32]) -> Option<AppId>
     requires sizes { length limits.now ≡ length instance.now.pools }
     requires each { length admitted.now ≡ length instance.now.lists }
-    ensures { MatchOption result ((a : ℕ) → a < length instance.now.lists → IsAdmission instance.now (slice_index limits.now) admitted.now a) (λ a. IsLowestWithout (length instance.now.lists) (IsAdmission instance.now (slice_index limits.now) admitted.now) a.0) }
+    ensures { let is_right = IsAdmission instance.now (slice_index limits.now) admitted.now in
+        IsLowestApplicant instance.now is_right result }
 {
     for number in 0..instance.applicants() {
         let app = AppId(number as u32);
@@ -68,7 +69,7 @@ pub fn wrong_count(
 ) -> Result<Option<PoolId>, OutOfMemory>
     requires admissions { length admitted.now ≡ length instance.now.lists }
     requires each { length counts.now ≡ length instance.now.pools }
-    ensures { IfOk result (λ wrong. (t : Limits) → admitted.now ≡ admitted_indexes instance.now t → MatchOption wrong ((P : ℕ) → P < length instance.now.pools → IsCount instance.now t counts.now P) (λ P. IsLowestWithout (length instance.now.pools) (IsCount instance.now t counts.now) P.0)) }
+    ensures { IfOk result (IsLowestMiscount instance.now admitted.now counts.now) }
 {
     let made = sl_admit::counts(alloc, instance, admitted)?;
     for number in 0..instance.pools() {

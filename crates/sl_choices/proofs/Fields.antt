@@ -6,11 +6,11 @@ use Rattle.std.proofs.lemmas.Bool.{cases_Bool, leb-true}
 use Rattle.sl_types.specs.declared.kinds.TheConstants.{MAX_LIST, MAX_PLACE, MAX_SCORE}
 use Rattle.sl_codes.specs.declared.faults.Cause.{Cause}
 use Rattle.sl_codes.specs.Codes.{has_code, number_of}
-use Rattle.sl_codes.specs.Fields.{number_of_field, number_within}
+use Rattle.sl_codes.specs.Fields.{number_of_field, number_within, number_in}
 use Rattle.sl_codes.specs.Faults.{number_cause}
 use Rattle.sl_codes.specs.Records.{Record, field_of}
 use Rattle.sl_choices.specs.declared.choices.ChoiceRow.{ChoiceRow}
-use Rattle.sl_choices.specs.Choices.{number_in, number_among, list_cause, place_cause, prog_cause}
+use Rattle.sl_choices.specs.Choices.{number_among, list_cause, place_cause, prog_cause}
 use Rattle.sl_choices.specs.Rows.{takes_place, takes_prog, own_cause}
 
 -- a number that is in its range is the number of the field

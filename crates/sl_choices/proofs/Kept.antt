@@ -11,15 +11,16 @@ use Rattle.std.proofs.lemmas.List.Elements.{All-from_recursion}
 use Rattle.sl_types.specs.declared.kinds.TheConstants.{MAX_APPLICANTS, MAX_CHOICES, MAX_LIST, MAX_PLACE, MAX_SCORE}
 use Rattle.sl_codes.specs.declared.faults.Cause.TheVariants.{BadNumber, TooMany, ListTooLong, RepeatedPlace, RepeatedChoice}
 use Rattle.sl_codes.specs.Codes.{has_code, number_of, with_code}
-use Rattle.sl_codes.specs.Fields.{is_code, number_of_field, number_within}
+use Rattle.sl_codes.specs.Fields.{is_code, number_of_field, number_within, number_in}
 use Rattle.sl_codes.specs.Faults.{number_cause}
 use Rattle.sl_codes.specs.Records.{Record, field_of}
 use Rattle.sl_codes.proofs.FirstFault.{neither, unbroken, code_right}
 use Rattle.sl_choices.specs.declared.choices.ChoiceRow.{ChoiceRow}
-use Rattle.sl_choices.specs.Choices.{ChoiceList, number_in, number_among, choice_of}
+use Rattle.sl_choices.specs.Choices.{ChoiceList, number_among, choice_of}
 use Rattle.sl_choices.specs.Rows.{rows_of_app, takes_place, takes_prog, own_cause, taken_cause, row_taken, is_row_of, share_place, share_prog, IsChoiceList}
 use Rattle.sl_choices.proofs.Links.{own_push, other_push}
-use Rattle.sl_choices.proofs.Lists.{agree, first_found, get_push, get_last, before_or_last}
+use Rattle.sl_choices.proofs.Lists.{get_push, get_last, before_or_last}
+use Rattle.sl_codes.proofs.Lists.{agree, first_found}
 use Rattle.sl_choices.proofs.Records.{numbered, code_added, row_right}
 
 -- no records keep all of it

@@ -4,3 +4,4 @@ mod Links
 mod Lists
 mod Numbers
 mod Records
+pub mod Whole

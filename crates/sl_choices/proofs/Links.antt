@@ -7,7 +7,8 @@ use Rattle.std.proofs.lemmas.List.Elements.{filter-append}
 use Rattle.sl_choices.specs.declared.choices.ChoiceRow.{ChoiceRow}
 use Rattle.sl_choices.specs.Chains.{no_row, IsLast, AreLinked}
 use Rattle.sl_choices.specs.Rows.{rows_of_app}
-use Rattle.sl_choices.proofs.Lists.{get_push, get_last, before_or_last, differ, agree}
+use Rattle.sl_codes.proofs.Lists.{differ, agree}
+use Rattle.sl_choices.proofs.Lists.{get_push, get_last, before_or_last}
 
 -- one more row of the applicant, or of another
 pub own_push : (app : ℕ) (rows : List ChoiceRow) (row : ChoiceRow) → row.app.0 ≡ app → rows_of_app app (rows ++ row ∷ []) ≡ rows_of_app app rows ++ row ∷ []

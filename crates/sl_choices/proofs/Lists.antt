@@ -1,17 +1,7 @@
 -- Laws on lists that end in one more element, and on tests of numbers.
-use Rattle.std.proofs.Common.{◌≡◌, ◌<◌, ◌+◌, ◌++◌, ◌⊎◌, ℕ, zero, suc, Bool, true, false, nat_eq, position, List, [], ◌∷◌, length, map, get_or, Some, refl, sym, ap, arith, inl, inr, true≢false}
+use Rattle.std.proofs.Common.{◌≡◌, ◌<◌, ◌+◌, ◌++◌, ◌⊎◌, ℕ, zero, suc, Bool, true, false, List, [], ◌∷◌, length, get_or, refl, sym, ap, arith, inl, inr, true≢false}
 use Rattle.std.specs.List.{list_any}
-use Rattle.std.proofs.lemmas.Bool.{cases_Bool, lt-ltb}
-use Rattle.std.proofs.lemmas.Bool.Decides.{eqb_tells}
-use Rattle.std.proofs.lemmas.List.Sums.{position_or_len_is}
-
-pub length_map : {A B : Type 0} (f : A → B) (xs : List A) → length (map f xs) ≡ length xs
-length_map f [] = refl
-length_map f (x ∷ xs) = rw (length_map f xs) refl
-
-pub any_map : {A B : Type 0} (f : A → B) (p : B → Bool) (xs : List A) → list_any p (map f xs) ≡ list_any (λ a. p (f a)) xs
-any_map f p [] = refl
-any_map f p (x ∷ xs) = rw (any_map f p xs) refl
+use Rattle.std.proofs.lemmas.Bool.{cases_Bool}
 
 -- the elements before the last one stay
 pub get_push : {A : Type 0} (xs : List A) (x d : A) (k : ℕ) → k < length xs → get_or (xs ++ x ∷ []) k d ≡ get_or xs k d
@@ -34,20 +24,6 @@ before_or_last (suc k) (suc n) h = elim (before_or_last k n (omega (arith, h))) 
   | inl l ↦ inl (omega (arith, l))
   | inr e ↦ inr (ap suc e)
 ]
-
--- numbers that differ, and numbers that don't
-pub differ : (a b : ℕ) → (a ≡ b → ⊥) → nat_eq a b ≡ false
-differ a b h = elim (eqb_tells a b) [ inl e ↦ absurd (h e.1) | inr e ↦ e.0 ]
-
-pub agree : (a b : ℕ) → a ≡ b → nat_eq a b ≡ true
-agree a b h = elim (eqb_tells a b) [ inl e ↦ e.0 | inr e ↦ absurd (e.1 h) ]
-
--- the first element that passes, from what is known by index
-pub first_found : {A : Type 0} (p : A → Bool) (xs : List A) (i : ℕ) (d : A) → i < length xs → ((k : ℕ) → k < i → p (get_or xs k d) ≡ false) → p (get_or xs i d) ≡ true → position p xs ≡ Some i
-first_found p xs i d lt before here =
-    let at = position_or_len_is p xs i d (omega arith) before (λ _. here) in
-    let less = lt-ltb i (length xs) lt in
-    rw (at, less) refl
 
 -- where an element passes there is a first
 pub place_found : {A : Type 0} (p : A → Bool) (xs : List A) (d : A) → list_any p xs ≡ true

@@ -5,8 +5,9 @@ use Rattle.std.proofs.lemmas.List.{length-reverse}
 use Rattle.std.proofs.lemmas.List.Sorted.{list_any-IsPermutation, IsPermutation-reverse}
 use Rattle.sl_codes.specs.Codes.{number_of, with_code}
 use Rattle.sl_codes.specs.Records.{Record, field_of}
+use Rattle.sl_codes.specs.Fields.{number_in}
 use Rattle.sl_choices.specs.declared.choices.ChoiceRow.{ChoiceRow}
-use Rattle.sl_choices.specs.Choices.{applicant_cause, number_in, number_among}
+use Rattle.sl_choices.specs.Choices.{applicant_cause, number_among}
 use Rattle.sl_choices.specs.Rows.{rows_of_app, own_cause, row_cause}
 use Rattle.sl_choices.proofs.Fields.{later_cause}
 

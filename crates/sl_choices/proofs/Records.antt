@@ -13,10 +13,12 @@ use Rattle.sl_codes.specs.Codes.{has_code, number_of, with_code}
 use Rattle.sl_codes.specs.Faults.{record_cause, name_cause}
 use Rattle.sl_codes.specs.Records.{Record, field_of, codes_of}
 use Rattle.sl_codes.proofs.FirstFault.{neither, unbroken}
+use Rattle.sl_codes.specs.Fields.{number_in}
 use Rattle.sl_choices.specs.declared.choices.ChoiceRow.{ChoiceRow}
-use Rattle.sl_choices.specs.Choices.{own_records, applicant_cause, list_cause, place_cause, prog_cause, has_prog, number_in, number_among, choice_fields_cause, choice_form, choice_of}
+use Rattle.sl_choices.specs.Choices.{own_records, applicant_cause, list_cause, place_cause, prog_cause, has_prog, number_among, choice_fields_cause, choice_form, choice_of}
 use Rattle.sl_choices.specs.Rows.{rows_of_app, takes_place, takes_prog, own_cause, row_cause, taken_cause, row_taken, IsDraft}
-use Rattle.sl_choices.proofs.Lists.{length_map, any_map, differ, agree, first_found, place_found, get_push}
+use Rattle.sl_codes.proofs.Lists.{length_map, any_map, differ, agree, first_found}
+use Rattle.sl_choices.proofs.Lists.{place_found, get_push}
 
 -- a code that is there has a number, at which it stands
 pub numbered : (codes : List (List ℕ)) (code : List ℕ) → has_code codes code ≡ true → (n : ℕ) × (n < length codes) × (number_of codes code ≡ Some n) × (get_or codes n [] ≡ code)

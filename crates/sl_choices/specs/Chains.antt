@@ -1,6 +1,7 @@
 -- The rows of each applicant, linked from the last to the first.
 -- A link to a row is one more than its place in the table, and 0 is a link to none.
 use Rattle.std.specs.Prelude.{◌≡◌, ◌≤◌, ◌<◌, ◌-◌, ℕ, List, length, take, get_or}
+use Rattle.sl_choices.specs.declared.chains.Chains.{Chains}
 use Rattle.sl_choices.specs.declared.choices.ChoiceRow.{ChoiceRow}
 use Rattle.sl_choices.specs.Rows.{rows_of_app}
 
@@ -20,3 +21,7 @@ pub record AreLinked (rows : List ChoiceRow) (last before : List ℕ) : Type 0 w
   pub apps : (k : ℕ) → k < length rows → (get_or rows k no_row).app.0 < length last
   pub to_last : (app : ℕ) → app < length last → IsLast rows app (length rows) (get_or last app 0)
   pub to_before : (k : ℕ) → k < length rows → IsLast rows (get_or rows k no_row).app.0 k (get_or before k 0)
+
+-- the rows of a table are linked
+abbrev pub HasLinks : Chains → Type 0
+HasLinks chains = AreLinked chains.rows.items chains.last.items chains.before.items

@@ -8,7 +8,7 @@ use Rattle.sl_codes.specs.declared.faults.Cause.{Cause}
 use Rattle.sl_codes.specs.declared.faults.Cause.TheVariants.{TooMany, ListTooLong, RepeatedPlace, UnknownProgramme, RepeatedChoice}
 use Rattle.sl_codes.specs.declared.faults.Table.TheVariants.{Applications}
 use Rattle.sl_codes.specs.Codes.{has_code, number_of, with_code}
-use Rattle.sl_codes.specs.Fields.{number_of_field}
+use Rattle.sl_codes.specs.Fields.{number_in}
 use Rattle.sl_codes.specs.Faults.{Form, cause_if, code_cause, name_cause, number_cause}
 use Rattle.sl_codes.specs.Records.{Record, field_of, codes_of}
 use Rattle.sl_choices.specs.declared.choices.ChoiceRow.{ChoiceRow}
@@ -26,17 +26,14 @@ first_seen codes = fold with_code [] codes
 abbrev pub applicants_of : List Record → List (List ℕ)
 applicants_of rows = first_seen (codes_of rows)
 
--- the number that a field stands for, or 0
-abbrev pub number_in : List ℕ → ℕ
-number_in field = unwrap_or (number_of_field field) 0
-
 -- of these records, those of the applicant of a record
 abbrev pub own_records : List Record → Record → List Record
 own_records before row = filter (λ other. bytes_eq (field_of row 0) (field_of other 0)) before
 
 -- what is wrong with the field of an applicant, where these are known: it is no code, or a new one too many
 abbrev pub applicant_cause : List (List ℕ) → List ℕ → Option Cause
-applicant_cause known field = option_or (code_cause field) (cause_if (not (has_code known field) && nat_le MAX_APPLICANTS (length known)) TooMany)
+applicant_cause known field =
+    option_or (code_cause field) (cause_if (not (has_code known field) && nat_le MAX_APPLICANTS (length known)) TooMany)
 
 -- an applicant who has so many choices can't have one more
 abbrev pub list_cause : ℕ → Option Cause

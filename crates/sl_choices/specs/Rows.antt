@@ -1,16 +1,16 @@
 -- The rows of applicants, and what a table that was read keeps.
-use Rattle.std.specs.Prelude.{◌≡◌, ◌≤◌, ◌<◌, ◌&&◌, ◌==◌, not, Bool, true, ℕ, List, length, map, filter, nat_eq, nat_le, nat_lt, Option}
+use Rattle.std.specs.Prelude.{◌≡◌, ◌≤◌, ◌<◌, All, ◌&&◌, ◌==◌, not, Bool, true, ℕ, List, length, map, filter, nat_eq, nat_le, nat_lt, Option}
 use Rattle.std.specs.Option.{option_or}
 use Rattle.std.specs.List.{list_all, list_any, IsDistinct}
 use Rattle.sl_types.specs.declared.kinds.TheConstants.{MAX_APPLICANTS, MAX_CHOICES, MAX_LIST, MAX_PLACE, MAX_SCORE}
 use Rattle.sl_codes.specs.declared.faults.Cause.{Cause}
 use Rattle.sl_codes.specs.declared.faults.Cause.TheVariants.{FieldCount, TooMany}
 use Rattle.sl_codes.specs.Codes.{has_code, with_code}
-use Rattle.sl_codes.specs.Fields.{is_code}
+use Rattle.sl_codes.specs.Fields.{is_code, number_in}
 use Rattle.sl_codes.specs.Faults.{cause_if, number_cause}
 use Rattle.sl_codes.specs.Records.{Record, field_of}
 use Rattle.sl_choices.specs.declared.choices.ChoiceRow.{ChoiceRow}
-use Rattle.sl_choices.specs.Choices.{ChoiceList, applicants_of, choice_of, applicant_cause, list_cause, place_cause, prog_cause, number_in, number_among}
+use Rattle.sl_choices.specs.Choices.{ChoiceList, applicants_of, choice_of, applicant_cause, list_cause, place_cause, prog_cause, number_among}
 
 -- the rows of an applicant
 abbrev pub rows_of_app : ℕ → List ChoiceRow → List ChoiceRow
@@ -50,7 +50,8 @@ abbrev pub row_taken : List (List ℕ) → List (List ℕ) → Record → Choice
 row_taken progs apps row = choice_of progs (with_code apps (field_of row 0)) row
 
 -- what was read of a table: the applicants and the rows of these records, each with a known programme
-pub record IsDraft (progs : List (List ℕ)) (before : List Record) (apps : List (List ℕ)) (rows : List ChoiceRow) : Type 0 where
+pub record IsDraft (progs : List (List ℕ)) (before : List Record)
+    (apps : List (List ℕ)) (rows : List ChoiceRow) : Type 0 where
   pub apps_are : apps ≡ applicants_of before
   pub rows_are : rows ≡ map (choice_of progs apps) before
   pub known : list_all (λ row. has_code apps (field_of row 0)) before ≡ true
@@ -58,7 +59,8 @@ pub record IsDraft (progs : List (List ℕ)) (before : List Record) (apps : List
 
 -- a row's numbers are in their ranges, its applicant being one of so many
 abbrev pub is_row_of : ℕ → ChoiceRow → Bool
-is_row_of apps row = nat_lt row.app.0 apps && nat_le 1 row.place && nat_le row.place MAX_PLACE && nat_le row.score MAX_SCORE
+is_row_of apps row =
+    nat_lt row.app.0 apps && nat_le 1 row.place && nat_le row.place MAX_PLACE && nat_le row.score MAX_SCORE
 
 -- two rows are of one applicant and one place
 abbrev pub share_place : ChoiceRow → ChoiceRow → Bool
@@ -79,3 +81,7 @@ pub record IsChoiceList (list : ChoiceList) : Type 0 where
   pub short : (app : ℕ) → length (rows_of_app app list.rows) ≤ MAX_LIST
   pub places : IsDistinct share_place list.rows
   pub progs : IsDistinct share_prog list.rows
+
+-- each row is of a known applicant and names a known programme
+abbrev pub NameKnown : ChoiceList → List (List ℕ) → Type 0
+NameKnown table progs = All (λ row. (row.app.0 < length table.codes) × (row.prog.0 < length progs)) table.rows

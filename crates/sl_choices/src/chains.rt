@@ -1,5 +1,5 @@
 ghost use Rattle.std.specs.Prelude.{◌≡◌, ◌<◌, ◌-◌, ◌^◌, ◌∷◌, ◌++◌, [], length, reverse, OnOk};
-ghost use Rattle.sl_choices.specs.Chains.{AreLinked};
+ghost use Rattle.sl_choices.specs.Chains.{HasLinks};
 ghost use Rattle.sl_choices.specs.Rows.{rows_of_app};
 
 use crate::ChoiceRow;
@@ -21,7 +21,7 @@ impl Chains {
     pub fn new(alloc: Global) -> Chains
         ensures rows { result.rows.items ≡ [] }
         ensures last { result.last.items ≡ [] }
-        ensures linked { AreLinked result.rows.items result.last.items result.before.items }
+        ensures linked { HasLinks result }
     {
         Chains {
             rows: Vec::new(alloc),
@@ -32,10 +32,10 @@ impl Chains {
 
     /// One more applicant, who has no row yet.
     pub fn add_applicant(&mut self) -> Result<(), AllocError>
-        requires { AreLinked self.old.rows.items self.old.last.items self.old.before.items }
+        requires { HasLinks self.old }
         ensures rows { OnOk result (self.new.rows.items ≡ self.old.rows.items) }
         ensures last { OnOk result (self.new.last.items ≡ self.old.last.items ++ 0 ∷ []) }
-        ensures linked { OnOk result (AreLinked self.new.rows.items self.new.last.items self.new.before.items) }
+        ensures linked { OnOk result (HasLinks self.new) }
     {
         self.last.push(0)?;
         Ok(())
@@ -43,12 +43,12 @@ impl Chains {
 
     /// One more row of an applicant.
     pub fn add_row(&mut self, row: ChoiceRow) -> Result<(), AllocError>
-        requires linked { AreLinked self.old.rows.items self.old.last.items self.old.before.items }
+        requires linked { HasLinks self.old }
         requires known { row.app.0 < length self.old.last.items }
         requires room { length self.old.rows.items < 2 ^ 32 - 1 }
         ensures rows { OnOk result (self.new.rows.items ≡ self.old.rows.items ++ row ∷ []) }
         ensures last { OnOk result (length self.new.last.items ≡ length self.old.last.items) }
-        ensures linked { OnOk result (AreLinked self.new.rows.items self.new.last.items self.new.before.items) }
+        ensures linked { OnOk result (HasLinks self.new) }
     {
         let app = row.app.0 as usize;
         self.before.push(self.last[app])?;
@@ -59,7 +59,7 @@ impl Chains {
 
     /// Puts the rows of an applicant into `own`, from the last to the first.
     pub fn find_own(&self, app: AppId, own: &mut Vec<ChoiceRow>) -> Result<(), AllocError>
-        requires linked { AreLinked self.now.rows.items self.now.last.items self.now.before.items }
+        requires linked { HasLinks self.now }
         requires known { app.0 < length self.now.last.items }
         ensures { OnOk result (own.new.items ≡ reverse (rows_of_app app.0 self.now.rows.items)) }
     {

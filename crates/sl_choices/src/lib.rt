@@ -3,6 +3,8 @@
 
 mod chains;
 mod choices;
+mod draft;
+mod rows;
 
 pub use choices::{ChoiceRow, ChoiceTable, read_choices};
 

@@ -43,7 +43,8 @@ no_number field h = elim (cases_Bool (is_number field)) [
   | inr e ↦ rw e refl
 ]
 
-digits_alike : (ds : List ℕ) → all_ascii_digits ds ≡ list_all is_ascii_digit ds
+-- both tests of digits are one
+pub digits_alike : (ds : List ℕ) → all_ascii_digits ds ≡ list_all is_ascii_digit ds
 digits_alike [] = refl
 digits_alike (d ∷ ds) = rw (digits_alike ds) refl
 

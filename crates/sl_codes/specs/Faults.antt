@@ -1,5 +1,5 @@
--- The first fault of a table: what is wrong with a field and with a record, and the first record that has something wrong.
-use Rattle.std.specs.Prelude.{◌≡◌, ⊤, ℕ, ◌+◌, ◌==◌, Bool, false, not, List, [], ◌∷◌, ◌++◌, length, drop, nat_le, is_none, Option, Some, None, cond, option_map}
+-- The first fault of a table: what is wrong with a field and with a record, and the first record with something wrong.
+use Rattle.std.specs.Prelude.{◌≡◌, ⊤, ℕ, ◌+◌, ◌==◌, Bool, false, not, List, [], ◌∷◌, ◌++◌, length, drop, nat_le, is_none, Option, Some, None, if◌then◌else◌, option_map, Result, MatchResult}
 use Rattle.std.specs.Option.{option_or}
 use Rattle.std.specs.Str.{is_utf8}
 use Rattle.sl_codes.specs.declared.faults.Table.{Table}
@@ -14,7 +14,7 @@ use Rattle.sl_codes.specs.Records.{Record, has_fields}
 
 -- a cause, where something is broken
 abbrev pub cause_if : Bool → Cause → Option Cause
-cause_if broken cause = cond broken (Some cause) None
+cause_if broken cause = if broken then Some cause else None
 
 -- what is wrong with a field that must be a code
 abbrev pub code_cause : List ℕ → Option Cause
@@ -32,15 +32,15 @@ number_cause low high field = cause_if (is_none (number_within low high field)) 
 abbrev pub name_cause : Cause → List (List ℕ) → List ℕ → Option Cause
 name_cause unknown codes field = cause_if (not (has_code codes field)) unknown
 
--- the form of a table: its header, how many records may follow, and what is wrong with the fields of a record that stands
--- after these
+-- the form of a table: its header, how many records may follow, and what is wrong with the fields of a record that
+-- stands after these
 pub record Form : Type 0 where
   pub table : Table
   pub header : List (List ℕ)
   pub most : ℕ
   pub fields_cause : List Record → Record → Option Cause
 
--- what is wrong with a record that stands after these: the number of its fields, or that it is one too many, or its fields
+-- what is wrong with a record that stands after these: the number of its fields, that it is one too many, or a field
 abbrev pub record_cause : Form → List Record → Record → Option Cause
 record_cause form before row =
     option_or (cause_if (not (length row == length form.header)) FieldCount)
@@ -65,11 +65,13 @@ has_header header (first ∷ rest) = has_fields first header
 
 -- the fault of a file that doesn't begin with the header
 abbrev pub header_fault : Table → List (List ℕ) → List Record → Option TableFault
-header_fault table header records = cond (has_header header records) None (Some (record { table = table; at = 1; cause = BadHeader }))
+header_fault table header records =
+    if has_header header records then None else Some (record { table = table; at = 1; cause = BadHeader })
 
 -- the first fault of the records of a file, record by record
 abbrev pub first_fault : Form → List Record → Option TableFault
-first_fault form records = option_or (header_fault form.table form.header records) (first_fault_after form [] (drop 1 records))
+first_fault form records =
+    option_or (header_fault form.table form.header records) (first_fault_after form [] (drop 1 records))
 
 -- the fault of a pass over the whole file, which finds the first record with this cause
 abbrev pub pass_fault : Table → Cause → Option ℕ → Option TableFault
@@ -84,6 +86,10 @@ read_error table rows RowError.OutOfMemory = ReadError.OutOfMemory
 abbrev pub IsFirst : Option TableFault → ReadError → Type 0
 IsFirst first (ReadError.Bad fault) = first ≡ Some fault
 IsFirst first ReadError.OutOfMemory = ⊤
+
+-- a result is an error exactly by what is wrong
+abbrev pub FailsBy : {T : Type 0} → Option Cause → Result T Cause → Type 0
+FailsBy cause result = MatchResult result (λ _. cause ≡ None) (λ found. cause ≡ Some found)
 
 -- why a record is refused: what is wrong with it, or memory ran out
 abbrev pub IsWrong : Option Cause → RowError → Type 0

@@ -1,5 +1,5 @@
 -- Fields: codes and numbers.
-use Rattle.std.specs.Prelude.{ℕ, Bool, ◌==◌, ◌&&◌, not, List, length, nat_le, cond, Option, Some, None, option_and_then}
+use Rattle.std.specs.Prelude.{ℕ, Bool, ◌==◌, ◌&&◌, not, List, length, nat_le, if◌then◌else◌, Option, Some, None, option_and_then, unwrap_or}
 use Rattle.std.specs.List.{list_all}
 use Rattle.std.specs.Char.{is_ascii_digit}
 use Rattle.std.specs.Str.{is_utf8}
@@ -24,8 +24,13 @@ is_number field = nat_le 1 (length field) && nat_le (length field) 9 && list_all
 
 -- the number that a field stands for
 abbrev pub number_of_field : List ℕ → Option ℕ
-number_of_field field = cond (is_number field) (Some (digits_value 10 field)) None
+number_of_field field = if is_number field then Some (digits_value 10 field) else None
 
 -- the number of a field, from low to high
 abbrev pub number_within : ℕ → ℕ → List ℕ → Option ℕ
-number_within low high field = option_and_then (λ n. cond (nat_le low n && nat_le n high) (Some n) None) (number_of_field field)
+number_within low high field =
+    option_and_then (λ n. if nat_le low n && nat_le n high then Some n else None) (number_of_field field)
+
+-- the number that a field stands for, or 0
+abbrev pub number_in : List ℕ → ℕ
+number_in field = unwrap_or (number_of_field field) 0

@@ -10,6 +10,8 @@ cause_at form rows k = record_cause form (take k rows) (get_or rows k [])
 
 -- of the records after a header, the first with something wrong has the first fault; where none has, there is none
 pub record FirstFaultSays : Type 0 where
-  pub found : (form : Form) (rows : List Record) (k : ℕ) (cause : Cause) → k < length rows → ((j : ℕ) → j < k → cause_at form rows j ≡ None)
+  pub found : (form : Form) (rows : List Record) (k : ℕ) (cause : Cause) → k < length rows
+      → ((j : ℕ) → j < k → cause_at form rows j ≡ None)
       → cause_at form rows k ≡ Some cause → first_fault_after form [] rows ≡ Some (fault_at form.table k cause)
-  pub none : (form : Form) (rows : List Record) → ((j : ℕ) → j < length rows → cause_at form rows j ≡ None) → first_fault_after form [] rows ≡ None
+  pub none : (form : Form) (rows : List Record)
+      → ((j : ℕ) → j < length rows → cause_at form rows j ≡ None) → first_fault_after form [] rows ≡ None

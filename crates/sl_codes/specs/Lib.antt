@@ -3,5 +3,7 @@ pub mod Faults
 pub mod Fields
 pub mod Laws
 pub mod Names
+pub mod Printing
 pub mod Reading
 pub mod Records
+pub mod RecordText

@@ -24,8 +24,8 @@ records_left reader has_ended = if has_ended then [] else records_after reader.s
 abbrev pub is_ready : Reader (Bor (List ℕ)) → Bool
 is_ready reader = reader.first || (not reader.has_headers && is_none reader.headers)
 
--- a reader that reads as `csv` does with its default settings, takes records of any length, has no header row of its own
--- and knows its bytes
+-- a reader that reads as `csv` does with its default settings, takes records of any length, has no header row of its
+-- own and knows its bytes
 pub record IsReading (reader : Reader (Bor (List ℕ))) : Type 0 where
   pub plain : reader.trim ≡ trim.None
   pub default : reader.config ≡ default_config

@@ -1,7 +1,7 @@
 ghost use Rattle.std.specs.Prelude.{◌≡◌, ◌==◌, ◌<◌, ◌-◌, ◌^◌, [], not, Some, length, slice_get, map, string_bytes, IfOk, IfSome, OnOk, OnErr, false, is_some, ◌++◌, ◌∷◌};
 ghost use Rattle.std.specs.List.{IsDistinct};
 ghost use Rattle.std.specs.Str.{bytes_eq};
-ghost use Rattle.sl_codes.specs.Codes.{has_code, number_of, with_code};
+ghost use Rattle.sl_codes.specs.Codes.{texts, has_code, number_of, with_code};
 
 use indexmap::IndexSet;
 use sl_types::OutOfMemory;
@@ -17,11 +17,12 @@ pub struct Codes {
 }
 
 impl Model for Codes {
-    ghost use Rattle.std.specs.Prelude.{ℕ, List, map, string_bytes, length, ◌<◌, ◌^◌};
+    ghost use Rattle.std.specs.Prelude.{ℕ, List, length, ◌<◌, ◌^◌};
+    ghost use Rattle.sl_codes.specs.Codes.{texts};
 
     ghost Value = { List (List ℕ) };
 
-    ghost view = { λ s. map (λ k. string_bytes k) s.set.keys };
+    ghost view = { λ s. texts s.set.keys };
 
     ghost invariant = { λ s. length s.set.keys < 2 ^ 32 };
 }
@@ -29,17 +30,17 @@ impl Model for Codes {
 // The number of a code.
 #[tactic(auto, using(crate::proofs::Lists::position_map, crate::proofs::Lists::any_map))]
 fn place(set: &IndexSet<String>, code: &str) -> Option<usize>
-    ensures index { result ≡ number_of (map (λ k. string_bytes k) set.now.keys) code.now }
+    ensures index { result ≡ number_of (texts set.now.keys) code.now }
     ensures within { IfSome result (λ i. i < length set.now.keys) }
-    ensures found { is_some result ≡ has_code (map (λ k. string_bytes k) set.now.keys) code.now }
+    ensures found { is_some result ≡ has_code (texts set.now.keys) code.now }
 {
     set.get_index_of(code)
 }
 
 // The number of the code of these bytes.
 fn place_of_bytes(set: &IndexSet<String>, code: &[u8]) -> Option<usize>
-    ensures index { result ≡ number_of (map (λ k. string_bytes k) set.now.keys) code.now }
-    ensures found { is_some result ≡ has_code (map (λ k. string_bytes k) set.now.keys) code.now }
+    ensures index { result ≡ number_of (texts set.now.keys) code.now }
+    ensures found { is_some result ≡ has_code (texts set.now.keys) code.now }
     ensures within { IfSome result (λ i. i < length set.now.keys) }
 {
     match str::from_utf8(code) {
@@ -52,7 +53,7 @@ fn place_of_bytes(set: &IndexSet<String>, code: &[u8]) -> Option<usize>
 #[tactic(auto, using(crate::proofs::Lists::distinct_map, crate::proofs::Lists::length_map))]
 fn count(set: &IndexSet<String>) -> usize
     ensures count { result ≡ length set.now.keys }
-    ensures once { IsDistinct bytes_eq (map (λ k. string_bytes k) set.now.keys) }
+    ensures once { IsDistinct bytes_eq (texts set.now.keys) }
 {
     set.len()
 }
@@ -60,8 +61,8 @@ fn count(set: &IndexSet<String>) -> usize
 // Adds a code that is not there.
 #[tactic(auto, using(crate::proofs::Lists::any_map))]
 fn push_new(set: &mut IndexSet<String>, code: String) -> Result<usize, AllocError>
-    requires { has_code (map (λ k. string_bytes k) set.old.keys) (string_bytes code) ≡ false }
-    ensures keys { OnOk result (map (λ k. string_bytes k) set.new.keys ≡ map (λ k. string_bytes k) set.old.keys ++ string_bytes code ∷ []) }
+    requires { has_code (texts set.old.keys) (string_bytes code) ≡ false }
+    ensures keys { OnOk result (texts set.new.keys ≡ texts set.old.keys ++ string_bytes code ∷ []) }
     ensures index { IfOk result (λ i. i ≡ length set.old.keys) }
     ensures err { OnErr result (set.new.keys ≡ set.old.keys) }
 {

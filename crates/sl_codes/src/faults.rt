@@ -210,3 +210,11 @@ impl From<OutOfMemory> for ReadError {
         ReadError::OutOfMemory
     }
 }
+
+impl From<AllocError> for ReadError {
+    ghost from_gives = { λ _ e. e ≡ table_error.OutOfMemory };
+
+    fn from(_error: AllocError) -> ReadError {
+        ReadError::OutOfMemory
+    }
+}

@@ -1,8 +1,8 @@
-ghost use Rattle.std.specs.Prelude.{◌≡◌, ◌<◌, ◌-◌, ◌^◌, ◌∷◌, ◌++◌, [], length, None, Some, IfOk, IfErr, OnOk, MatchResult};
+ghost use Rattle.std.specs.Prelude.{◌≡◌, ◌<◌, ◌-◌, ◌^◌, ◌∷◌, ◌++◌, [], length, None, Some, IfOk, IfErr, OnOk};
 ghost use Rattle.std.specs.List.{list_all};
 ghost use Rattle.std.specs.Char.{is_ascii_digit};
 ghost use Rattle.sl_codes.specs.Fields.{has_code_form, is_code_byte, is_number, number_of_field, number_within};
-ghost use Rattle.sl_codes.specs.Faults.{code_cause, new_code_cause, number_cause, IsWrong};
+ghost use Rattle.sl_codes.specs.Faults.{code_cause, new_code_cause, number_cause, FailsBy, IsWrong};
 
 use crate::{Cause, Codes, RowError};
 use std::str;
@@ -26,7 +26,7 @@ fn has_code_form(text: &str) -> bool
 /// The text of a field that must be a code, or what is wrong with it.
 pub fn code(field: &[u8]) -> Result<&str, Cause>
     ensures text { IfOk result (λ text. text.now ≡ field.now) }
-    ensures cause { MatchResult result (λ _. code_cause field.now ≡ None) (λ cause. code_cause field.now ≡ Some cause) }
+    ensures cause { FailsBy (code_cause field.now) result }
 {
     let Ok(text) = str::from_utf8(field) else {
         return Err(Cause::NotText);
@@ -88,7 +88,7 @@ pub fn number(field: &[u8]) -> Option<u32>
 /// The number of a field that must be one from `low` to `high`.
 pub fn number_within(field: &[u8], low: u32, high: u32) -> Result<u32, Cause>
     ensures number { IfOk result (λ n. number_within low high field.now ≡ Some n) }
-    ensures cause { MatchResult result (λ _. number_cause low high field.now ≡ None) (λ cause. number_cause low high field.now ≡ Some cause) }
+    ensures cause { FailsBy (number_cause low high field.now) result }
 {
     match number(field) {
         Some(value) if low <= value && value <= high => Ok(value),

@@ -60,7 +60,8 @@ fn want_of_memory(error: Error) -> OutOfMemory
 fn read(reader: &mut Reader<&[u8]>, row: &mut ByteRecord) -> Result<bool, OutOfMemory>
     requires { IsReading reader.old }
     ensures reading { IfOk result (λ found. found ≡ true → IsReading reader.new) }
-    ensures next { IfOk result (λ found. GivesNext (records_left reader.old false) found (fields_of row.new) (records_left reader.new (not found))) }
+    ensures next { let before = records_left reader.old false in
+        IfOk result (λ found. GivesNext before found (fields_of row.new) (records_left reader.new (not found))) }
 {
     match reader.read_byte_record(row) {
         Ok(found) => Ok(found),
@@ -128,7 +129,8 @@ pub fn read_header(
 ) -> Result<(), ReadError>
     ensures header { OnOk result (has_header (map (λ s. s.now) header.now) records.old ≡ true) }
     ensures rows { OnOk result (records.new ≡ drop 1 records.old) }
-    ensures refused { IfErr result (IsFirst (header_fault table (map (λ s. s.now) header.now) records.old)) }
+    ensures refused { let header = map (λ s. s.now) header.now in
+        IfErr result (IsFirst (header_fault table header records.old)) }
 {
     if records.next(row)? && has_fields(row, header) {
         return Ok(());

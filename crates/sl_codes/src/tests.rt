@@ -1,5 +1,6 @@
 use super::*;
 use csv::ByteRecord;
+use sl_io::{MemSink, WriteError};
 use std::test::Fail;
 
 #[test]
@@ -87,5 +88,75 @@ fn names(rt: HostRuntime) -> Result<(), Fail> {
     assert_eq!(rt; Table::Amendments.word(), "amendments");
     assert_eq!(rt; Cause::NotText.name(), "NotText");
     assert_eq!(rt; Cause::NoEnd.name(), "NoEnd");
+    Ok(())
+}
+
+#[test]
+fn prints_records(rt: HostRuntime) -> Result<(), Fail> {
+    for (fields, text) in [
+        (["admit", "y", "2", "a"], "admit,y,2,a\n"),
+        (["", "", "", ""], ",,,\n"),
+        (
+            ["ELTE IK, nappali", "2", "", "score"],
+            "\"ELTE IK, nappali\",2,,score\n",
+        ),
+        (["a\"b", "\"", ";", " x "], "\"a\"\"b\",\"\"\"\",;, x \n"),
+    ] {
+        let [first, second, third, fourth] = fields;
+        let mut out = MemSink::new(rt.alloc(), 100)?;
+        let record = [
+            Field::Text(first),
+            Field::Text(second),
+            Field::Text(third),
+            Field::Text(fourth),
+        ];
+        put_record(rt.alloc(), &record, &mut out)?;
+        assert_eq!(rt; out.bytes(), text.as_bytes(), "at {text}");
+    }
+    Ok(())
+}
+
+#[test]
+fn prints_numbers_and_records_of_any_width(rt: HostRuntime) -> Result<(), Fail> {
+    let mut buffer = Vec::new(rt.alloc());
+    let mut out = MemSink::new(rt.alloc(), 100)?;
+    let mut printer = Printer::new(&mut buffer, &mut out);
+    printer.print(&[Field::Number(0)])?;
+    printer.print(&[Field::Text("a"), Field::Number(1_000_001)])?;
+    printer.print(&[Field::Text("b"), Field::Text(""), Field::Text("c")])?;
+    printer.flush()?;
+    assert_eq!(rt; out.bytes(), b"0\na,1000001\nb,,c\n".as_slice());
+    Ok(())
+}
+
+#[test]
+fn a_narrow_sink_takes_a_part(rt: HostRuntime) -> Result<(), Fail> {
+    let mut out = MemSink::new(rt.alloc(), 5)?;
+    let record = [Field::Text("limit"), Field::Text("A")];
+    let answer = put_record(rt.alloc(), &record, &mut out);
+    assert_eq!(rt; answer, Err(WriteError::Fault));
+    assert_eq!(rt; out.bytes(), b"limit".as_slice());
+    Ok(())
+}
+
+#[test]
+fn shown_to_people(rt: HostRuntime) -> Result<(), Fail> {
+    let fault = TableFault {
+        table: Table::Results,
+        at: 12,
+        cause: Cause::AfterEnd,
+    };
+    assert_eq!(rt;
+        format!(in rt.alloc(); "{}", ReadError::Bad(fault))?.as_str(),
+        "result:12: AfterEnd"
+    );
+    assert_eq!(rt;
+        format!(in rt.alloc(); "{}", RowError::Bad(Cause::NotText))?.as_str(),
+        "NotText"
+    );
+    assert_eq!(rt;
+        format!(in rt.alloc(); "{}", ReadError::OutOfMemory)?.as_str(),
+        "out of memory"
+    );
     Ok(())
 }

@@ -1,8 +1,14 @@
+pub mod Buckets
+pub mod OneRow
+pub mod Orders
 pub mod Rising
-pub mod Round
 pub mod Growing
+pub mod Placed
+pub mod Offered
+pub mod Sums
+pub mod Tallies
+pub mod Entered
 pub mod Leading
+pub mod Held
 pub mod Tables
-pub mod Ranks
-pub mod Most
 pub mod Lawful

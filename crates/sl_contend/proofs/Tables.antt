@@ -1,9 +1,9 @@
 -- The rows of a market's pools, once all numbers are entered.
-use Rattle.std.proofs.Common.{◌≡◌, ℕ, zero, suc, ◌+◌, ◌<◌, ◌≤◌, Bool, true, false, not, ◌&&◌, ◌||◌, List, [], ◌∷◌, length, map, filter, get_or, nat_eq, All, Vec, refl, sym, ap, ◌∙◌, arith, inl, inr, subst, eqb-true, eq-eqb, ne_eqb}
+use Rattle.std.proofs.Common.{◌≡◌, ℕ, zero, suc, ◌+◌, ◌<◌, ◌≤◌, Bool, true, false, not, ◌&&◌, ◌||◌, List, [], ◌∷◌, length, map, filter, get_or, nat_eq, slice_get, Some, All, refl, sym, ap, ◌∙◌, arith, inl, inr, subst, eqb-true, eq-eqb, ne_eqb}
 use Rattle.std.specs.List.{list_any, range_with_len}
-use Rattle.std.specs.declared.alloc.Global.{Global}
 use Rattle.std.proofs.lemmas.Bool.{cases_Bool, eqb-false, or_parts}
 use Rattle.std.proofs.lemmas.List.{length-map, get_or-map}
+use Rattle.std.proofs.lemmas.Option.{slice_get-get_or}
 use Rattle.std.proofs.lemmas.List.Elements.{All-filter, All-from_get_or, All-get_or}
 use Rattle.std.proofs.lemmas.List.FromFn.{fill_by_all, length-range_with_len, get_or-map-range_with_len}
 use Rattle.sl_types.specs.declared.kinds.AppId.{AppId}
@@ -13,6 +13,7 @@ use Rattle.sl_types.specs.Market.{Market, list_of, pool_numbers}
 use Rattle.sl_types.specs.Valid.{applicant_numbers}
 use Rattle.sl_laws.specs.Stable.{is_choice_in, leads, feeds}
 use Rattle.sl_contend.proofs.Growing.{range_low}
+use Rattle.sl_contend.specs.Rows.{row_of, numbers_in}
 use Rattle.sl_contend.specs.Contention.{contends, contenders_of, is_lead, fed_by, each_pool}
 
 -- whether P is fed by Q
@@ -33,17 +34,25 @@ each_count market f = length-map (pool_numbers market) f ∙ length-range_with_l
 pub each_at : (market : Market) (f : ℕ → List ℕ) (P : ℕ) → P < length market.pools → get_or (each_pool market f) P [] ≡ f P
 each_at market f P h = get_or-map-range_with_len f 0 (length market.pools) P P [] h (omega arith)
 
--- as many rows as pools
-pub rows_count : {T : Type 0} (number : T → ℕ) (rows : List (Vec T Global)) (market : Market) (f : ℕ → List ℕ) → map (λ row. map number row.items) rows ≡ each_pool market f → length rows ≡ length market.pools
-rows_count number rows market f are = sym (length-map rows (λ row. map number row.items)) ∙ (ap length are ∙ (length-map (pool_numbers market) f ∙ length-range_with_len 0 (length market.pools)))
+-- row P of so many
+pub row_got : {A : Type 0} (f : ℕ → A) (count P : ℕ) → P < count → slice_get (map f (range_with_len 0 count)) P ≡ Some (f P)
+row_got {A} f count P h =
+    let size = length-map (range_with_len 0 count) f in
+    let n = length-range_with_len 0 count in
+    slice_get-get_or (map f (range_with_len 0 count)) P (f P) (omega (arith, h, size, n)) ∙ ap (λ (x : A). Some x) (get_or-map-range_with_len f 0 count P P (f P) h (omega arith))
+
+-- what is got of rows that hold f of each pool is f of its pool
+pub row_told : {A : Type 0} (f : ℕ → A) (market : Market) (rows : List A) (P : ℕ) (row : A) → rows ≡ map f (pool_numbers market) → P < length market.pools → slice_get rows P ≡ Some row → row ≡ f P
+row_told {A} f market rows P row are h got =
+    let e : Some row ≡ Some (f P) = sym got ∙ (ap (λ (rs : List A). slice_get rs P) are ∙ row_got f (length market.pools) P h) in
+    cc
 
 -- the row of a pool
-pub row_at : {T : Type 0} (number : T → ℕ) (rows : List (Vec T Global)) (market : Market) (f : ℕ → List ℕ) → map (λ row. map number row.items) rows ≡ each_pool market f
-    → (P : ℕ) (d : Vec T Global) → P < length market.pools → map number (get_or rows P d).items ≡ f P
-row_at number rows market f are P d h =
-    let n = rows_count number rows market f are in
-    sym (get_or-map (λ row. map number row.items) rows P d [] (omega (arith, n, h)))
-    ∙ (ap (λ rs. get_or rs P []) are ∙ get_or-map-range_with_len f 0 (length market.pools) P P [] h (omega arith))
+pub row_at : {T : Type 0} (number : T → ℕ) (items : List T) (starts : List ℕ) (market : Market) (f : ℕ → List ℕ) → numbers_in number (length market.pools) items starts ≡ each_pool market f
+    → (P : ℕ) → P < length market.pools → map number (row_of items starts P) ≡ f P
+row_at number items starts market f are P h =
+    sym (get_or-map-range_with_len (λ k. map number (row_of items starts k)) 0 (length market.pools) P P [] h (omega arith))
+    ∙ (ap (λ rs. get_or rs P []) are ∙ each_at market f P h)
 
 -- what is told by its number lies below the end of the range
 pub below : {T : Type 0} (number : T → ℕ) (d : T) (xs : List T) (p : ℕ → Bool) (n : ℕ) → map number xs ≡ filter p (range_with_len 0 n) → All (λ x. number x < n) xs

@@ -1,23 +1,32 @@
 -- Who contends for each pool, and which pools feed which, as lists of numbers.
-use Rattle.std.specs.Prelude.{ℕ, Bool, List, length, map, filter}
+use Rattle.std.specs.Prelude.{◌≡◌, ℕ, Bool, List, length, map, filter}
 use Rattle.std.specs.List.{list_any}
 use Rattle.sl_types.specs.declared.kinds.AppId.{AppId}
+use Rattle.sl_types.specs.declared.kinds.Entry.{Entry}
 use Rattle.sl_types.specs.declared.kinds.PoolId.{PoolId}
 use Rattle.sl_types.specs.Market.{Market, list_of, pool_numbers}
 use Rattle.sl_types.specs.Valid.{applicant_numbers}
-use Rattle.sl_laws.specs.Limits.{greatest_of}
 use Rattle.sl_laws.specs.Stable.{is_choice_in, leads, feeds}
+use Rattle.sl_contend.specs.declared.offer.Offer.{Offer}
+use Rattle.sl_contend.specs.declared.rows.Rows.{Rows}
+use Rattle.sl_contend.specs.Rows.{AreCut, numbers_of}
+use Rattle.sl_contend.specs.Offers.{offers_in}
 
--- how many pools there are, and for each: who has a choice in it, which pools feed it, and which pools it feeds
+-- how many pools there are, and for each: the choices in it, who has one, which pools feed it, and which pools it feeds
 pub record Contention : Type 0 where
   pub pools : ℕ
+  pub offers : List (List Offer)
   pub of : List (List ℕ)
   pub feeds : List (List ℕ)
   pub fed : List (List ℕ)
 
+-- whether one of these choices is in Q
+abbrev pub has_choice_in : Market → List Entry → ℕ → Bool
+has_choice_in market choices Q = list_any (is_choice_in market Q) choices
+
 -- whether an applicant has a choice in P
 abbrev pub contends : Market → ℕ → ℕ → Bool
-contends market a P = list_any (is_choice_in market P) (list_of market a)
+contends market a P = has_choice_in market (list_of market a) P
 
 -- the applicants who have a choice in P, in rising order
 abbrev pub contenders_of : Market → ℕ → List ℕ
@@ -39,17 +48,41 @@ fed_by market P = filter (λ Q. feeds market P Q) (pool_numbers market)
 abbrev pub each_pool : Market → (ℕ → List ℕ) → List (List ℕ)
 each_pool market f = map f (pool_numbers market)
 
+-- the offers of each pool
+abbrev pub each_offers : Market → List (List Offer)
+each_offers market = map (offers_in market) (pool_numbers market)
+
 -- the whole of a market
 abbrev pub contention_of : Market → Contention
-contention_of market = record { pools = length market.pools; of = each_pool market (contenders_of market); feeds = each_pool market (feeding market); fed = each_pool market (fed_by market) }
+contention_of market = record {
+  pools = length market.pools;
+  offers = each_offers market;
+  of = each_pool market (contenders_of market);
+  feeds = each_pool market (feeding market);
+  fed = each_pool market (fed_by market);
+}
 
--- the numbers of applicants and of pools
+-- what holds of contenders that were made for a market
+abbrev pub MadeFor : Contention → (Market → Type 0) → Type 0
+MadeFor contention Says = (market : Market) → contention ≡ contention_of market → Says market
+
+-- the numbers of applicants
 abbrev pub numbers_of_apps : List AppId → List ℕ
 numbers_of_apps apps = map (λ a. a.0) apps
 
+-- the numbers of pools
 abbrev pub numbers_of_pools : List PoolId → List ℕ
 numbers_of_pools pools = map (λ p. p.0) pools
 
--- how many contend for the pool with the most contenders
-abbrev pub most_contenders : Market → ℕ
-most_contenders market = greatest_of (λ P. length (contenders_of market P)) (pool_numbers market)
+-- the number of an applicant
+abbrev pub number_of_app : AppId → ℕ
+number_of_app app = app.0
+
+-- the number of a pool
+abbrev pub number_of_pool : PoolId → ℕ
+number_of_pool pool = pool.0
+
+-- each pool's row holds f of it, by numbers
+pub record HoldEach {A : Type 0} (number : A → ℕ) (market : Market) (f : ℕ → List ℕ) (rows : Rows A) : Type 0 where
+  pub cut : AreCut (length market.pools) rows
+  pub each : numbers_of number (length market.pools) rows ≡ each_pool market f

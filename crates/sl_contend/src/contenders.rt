@@ -1,90 +1,95 @@
-ghost use Rattle.std.specs.Prelude.{◌≡◌, ◌<◌, [], All, length, map, get_or, IfOk};
-ghost use Rattle.sl_types.specs.Market.{Market};
-ghost use Rattle.sl_contend.specs.Contention.{contention_of, contenders_of, feeding, fed_by, numbers_of_apps, numbers_of_pools};
+ghost use Rattle.std.specs.Prelude.{◌≡◌, ◌<◌, All, length, slice_get, IfOk};
+ghost use Rattle.std.specs.List.Sorted.{IsPermutation, IsSortedBy};
+ghost use Rattle.sl_contend.specs.Contention.{contention_of, MadeFor, contenders_of, feeding, fed_by, numbers_of_apps, numbers_of_pools};
+ghost use Rattle.sl_contend.specs.Offers.{choices_in, comes_before, IsChoice};
 
-use crate::contention;
-use crate::rows::Numbered;
+use crate::offer::Offer;
+use crate::rows::{Rows, row};
+use crate::{contention, offering};
 use sl_types::{AppId, Instance, OutOfMemory, PoolId};
-use std::alloc::{AllocError, Global};
+use std::alloc::Global;
 use std::marker::Model;
 
-/// Who contends for each pool of an instance, and which pools feed which. Contracts see the three lists of
-/// each pool, as numbers.
+/// The choices in each pool of an instance, who has one, and which pools feed which. Contracts see the four
+/// lists of each pool, the last three as numbers.
 #[derive(Drop)]
 pub struct Contenders {
-    of: Vec<Vec<AppId>>,
-    feeds: Vec<Vec<PoolId>>,
-    fed: Vec<Vec<PoolId>>,
+    pools: usize,
+    offers: Rows<Offer>,
+    of: Rows<AppId>,
+    feeds: Rows<PoolId>,
+    fed: Rows<PoolId>,
 }
 
 impl Model for Contenders {
     ghost use Rattle.sl_contend.specs.Contention.{Contention};
-    ghost use Rattle.sl_contend.specs.Entering.{rows_of};
-    ghost use Rattle.std.specs.Prelude.{◌≡◌, vec_len};
+    ghost use Rattle.sl_contend.specs.Made.{contention_in, AreAllCut};
 
     ghost Value = { Contention };
 
-    ghost view = { λ s. record { pools = vec_len s.of; of = rows_of (λ a. a.0) s.of; feeds = rows_of (λ p. p.0) s.feeds; fed = rows_of (λ p. p.0) s.fed } };
+    ghost view = { λ s. contention_in s.pools s.offers s.of s.feeds s.fed };
 
-    ghost invariant = { λ s. (vec_len s.feeds ≡ vec_len s.of) × (vec_len s.fed ≡ vec_len s.of) };
-}
-
-// The row of a pool.
-fn row<T: Numbered>(rows: &[Vec<T>], pool: PoolId) -> &[T]
-    requires { pool.0 < length rows.now }
-    ensures { map T.number result.now ≡ get_or (map (λ row. map T.number row.items) rows.now) pool.0 [] }
-{
-    &rows[pool.0 as usize]
+    ghost invariant = { λ s. AreAllCut s.pools s.offers s.of s.feeds s.fed };
 }
 
 impl Contenders {
-    // The same, with want of memory as the allocator tells it.
-    fn made(alloc: Global, instance: &Instance) -> Result<Contenders, AllocError>
-        ensures { IfOk result (λ c. c ≡ contention_of instance.now) }
-    {
-        let of = contention::contenders(alloc, instance)?;
-        let fed = contention::fed(alloc, instance, &of)?;
-        let feeds = contention::feeds(alloc, instance, &fed)?;
-        Ok(Contenders { of, feeds, fed })
-    }
-
     /// The contenders of an instance's pools, and which of its pools feed which.
     pub fn new(alloc: Global, instance: &Instance) -> Result<Contenders, OutOfMemory>
         ensures { IfOk result (λ c. c ≡ contention_of instance.now) }
     {
-        match Contenders::made(alloc, instance) {
-            Ok(contenders) => Ok(contenders),
-            Err(_) => Err(OutOfMemory),
-        }
+        let offers = offering::offers(alloc, instance)?;
+        let of = contention::contenders(alloc, instance)?;
+        let fed = contention::fed(alloc, instance, &of)?;
+        let feeds = contention::feeds(alloc, instance, &fed)?;
+        Ok(Contenders {
+            pools: instance.pools(),
+            offers,
+            of,
+            feeds,
+            fed,
+        })
+    }
+
+    /// Every choice in a pool or in a pool inside it, once: by falling score, then by rising applicant, then by
+    /// rising place on the list.
+    pub fn offers(&self, pool: PoolId) -> &[Offer]
+        requires { pool.0 < self.now.pools }
+        ensures value { slice_get self.now.offers pool.0 ≡ Some result.now }
+        ensures each { MadeFor self.now (λ m. IsPermutation (choices_in m pool.0) result.now) }
+        ensures falling { MadeFor self.now (λ m. IsSortedBy comes_before result.now) }
+        ensures within { MadeFor self.now (λ m. All (IsChoice m) result.now) }
+    {
+        row(&self.offers, self.pools, pool)
     }
 
     /// Each applicant who has a choice in a pool or in a pool inside it, once, in rising order.
     pub fn of(&self, pool: PoolId) -> &[AppId]
         requires { pool.0 < self.now.pools }
-        ensures value { numbers_of_apps result.now ≡ get_or self.now.of pool.0 [] }
-        ensures contenders { (market : Market) → self.now ≡ contention_of market → numbers_of_apps result.now ≡ contenders_of market pool.0 }
-        ensures within { (market : Market) → self.now ≡ contention_of market → All (λ a. a.0 < length market.lists) result.now }
+        ensures value { slice_get self.now.of pool.0 ≡ Some (numbers_of_apps result.now) }
+        ensures contenders { MadeFor self.now
+            (λ m. numbers_of_apps result.now ≡ contenders_of m pool.0) }
+        ensures within { MadeFor self.now (λ m. All (λ a. a.0 < length m.lists) result.now) }
     {
-        row(&self.of, pool)
+        row(&self.of, self.pools, pool)
     }
 
     /// The pools that feed a pool, in rising order.
     pub fn feeds(&self, pool: PoolId) -> &[PoolId]
         requires { pool.0 < self.now.pools }
-        ensures value { numbers_of_pools result.now ≡ get_or self.now.feeds pool.0 [] }
-        ensures feeding { (market : Market) → self.now ≡ contention_of market → numbers_of_pools result.now ≡ feeding market pool.0 }
-        ensures within { (market : Market) → self.now ≡ contention_of market → All (λ p. p.0 < length market.pools) result.now }
+        ensures value { slice_get self.now.feeds pool.0 ≡ Some (numbers_of_pools result.now) }
+        ensures feeding { MadeFor self.now (λ m. numbers_of_pools result.now ≡ feeding m pool.0) }
+        ensures within { MadeFor self.now (λ m. All (λ p. p.0 < length m.pools) result.now) }
     {
-        row(&self.feeds, pool)
+        row(&self.feeds, self.pools, pool)
     }
 
     /// The pools that a pool feeds, in rising order.
     pub fn fed(&self, pool: PoolId) -> &[PoolId]
         requires { pool.0 < self.now.pools }
-        ensures value { numbers_of_pools result.now ≡ get_or self.now.fed pool.0 [] }
-        ensures fed { (market : Market) → self.now ≡ contention_of market → numbers_of_pools result.now ≡ fed_by market pool.0 }
-        ensures within { (market : Market) → self.now ≡ contention_of market → All (λ p. p.0 < length market.pools) result.now }
+        ensures value { slice_get self.now.fed pool.0 ≡ Some (numbers_of_pools result.now) }
+        ensures fed { MadeFor self.now (λ m. numbers_of_pools result.now ≡ fed_by m pool.0) }
+        ensures within { MadeFor self.now (λ m. All (λ p. p.0 < length m.pools) result.now) }
     {
-        row(&self.fed, pool)
+        row(&self.fed, self.pools, pool)
     }
 }

@@ -4,15 +4,19 @@
 mod contenders;
 mod contention;
 mod entering;
+mod filling;
+mod offer;
+mod offering;
 mod rows;
 mod rule;
 mod scratch;
 mod theorems;
 
 pub use contenders::Contenders;
+pub use offer::Offer;
 pub use rule::RaiseRule;
-pub use scratch::{Ranked, Scratch};
-pub use theorems::best_is_one;
+pub use scratch::Scratch;
+pub use theorems::{best_is_local, best_is_one, best_passes_none, best_stays_justified};
 
 #[cfg(test)]
 mod tests;

@@ -84,7 +84,7 @@ fn both_prefer_the_first(rt: HostRuntime) -> Result<(), Fail> {
 
 // x goes from A through C back to A, y from C through B to A; nobody applies to the last pool.
 #[test]
-fn two_programmes_in_one_pool(rt: HostRuntime) -> Result<(), Fail> {
+fn led_back_to_the_first_pool(rt: HostRuntime) -> Result<(), Fail> {
     let alloc = rt.alloc();
     let x = vec![in alloc; choice(1, 0, 5), choice(2, 3, 5), choice(3, 1, 5)]?;
     let y = vec![in alloc; choice(1, 3, 5), choice(2, 2, 5), choice(3, 1, 5)]?;
@@ -98,35 +98,89 @@ fn two_programmes_in_one_pool(rt: HostRuntime) -> Result<(), Fail> {
     Ok(())
 }
 
-// Takes scores while there is room.
-fn takes(scratch: &mut Scratch, scores: &[u32]) {
-    for score in scores {
-        if !scratch.is_full() {
-            scratch.push(*score);
-        }
+// The choices in a pool, from the greatest score down.
+fn offered(
+    rt: &impl Abort,
+    instance: &Instance,
+    contenders: &Contenders,
+    pool: PoolId,
+    offers: &[Offer],
+)
+    requires { contenders.now ≡ contention_of instance.now }
+{
+    assert!(rt; (pool.0 as usize) < instance.pools());
+    assert_eq!(rt; contenders.offers(pool), offers);
+}
+
+fn offer(score: u32, app: u32, index: u32) -> Offer {
+    Offer {
+        score,
+        app: AppId(app),
+        index,
     }
 }
 
+// x has two choices in A, of which the second is the better, and y one; nobody applies to B.
 #[test]
-fn ranked_scores(rt: HostRuntime) -> Result<(), Fail> {
+fn two_programmes_in_one_pool(rt: HostRuntime) -> Result<(), Fail> {
     let alloc = rt.alloc();
-    let list = vec![in alloc; choice(1, 0, 5)]?;
-    let mut lists = Vec::new(alloc);
-    for _ in 0..5 {
-        lists.push(list.clone()?)?;
-    }
-    let instance = instance(alloc, 2, vec![in alloc; A]?, lists)?;
+    let x = vec![in alloc; choice(1, 0, 10), choice(2, 1, 14)]?;
+    let y = vec![in alloc; choice(1, 0, 12)]?;
+    let instance = instance(alloc, 2, vec![in alloc; A, A]?, vec![in alloc; x, y]?)?;
     let contenders = Contenders::new(alloc, &instance)?;
-    let mut scratch = Scratch::new(alloc, &instance, &contenders)?;
-    for (rank, score, above) in [(0, 9, 0), (1, 9, 0), (2, 7, 2), (3, 7, 2), (4, 3, 4)] {
-        takes(&mut scratch, &[7, 9, 3, 9, 7, 1]);
-        assert_eq!(rt; scratch.len(), 5);
-        assert!(rt; scratch.is_full());
-        assert!(rt; rank < scratch.len());
-        assert_eq!(rt; scratch.ranked(rank), Ranked { score, above });
-        assert_eq!(rt; scratch.len(), 0);
-    }
-    scratch.clear();
-    assert!(rt; !scratch.is_full());
+    offered(
+        &rt,
+        &instance,
+        &contenders,
+        A,
+        &[offer(14, 0, 1), offer(12, 1, 0), offer(10, 0, 0)],
+    );
+    offered(&rt, &instance, &contenders, B, &[]);
+    Ok(())
+}
+
+// Equal scores stand by applicant, and those of one applicant by place on the list; each pool has its own.
+#[test]
+fn tied_choices(rt: HostRuntime) -> Result<(), Fail> {
+    let alloc = rt.alloc();
+    let x = vec![in alloc; choice(1, 2, 7), choice(2, 0, 5), choice(3, 1, 5)]?;
+    let y = vec![in alloc; choice(1, 1, 5), choice(2, 0, 6), choice(3, 2, 7)]?;
+    let z = vec![in alloc; choice(1, 0, 5)]?;
+    let instance = instance(alloc, 2, vec![in alloc; A, A, B]?, vec![in alloc; x, y, z]?)?;
+    let contenders = Contenders::new(alloc, &instance)?;
+    offered(
+        &rt,
+        &instance,
+        &contenders,
+        A,
+        &[
+            offer(6, 1, 1),
+            offer(5, 0, 1),
+            offer(5, 0, 2),
+            offer(5, 1, 0),
+            offer(5, 2, 0),
+        ],
+    );
+    offered(
+        &rt,
+        &instance,
+        &contenders,
+        B,
+        &[offer(7, 0, 0), offer(7, 1, 2)],
+    );
+    Ok(())
+}
+
+fn shared<T: Sync>(_value: &T) {}
+
+// Threads may share an instance and its contenders.
+#[test]
+fn shared_by_threads(rt: HostRuntime) -> Result<(), Fail> {
+    let alloc = rt.alloc();
+    let x = vec![in alloc; choice(1, 0, 10)]?;
+    let instance = instance(alloc, 1, vec![in alloc; A]?, vec![in alloc; x]?)?;
+    let contenders = Contenders::new(alloc, &instance)?;
+    shared(&instance);
+    shared(&contenders);
     Ok(())
 }

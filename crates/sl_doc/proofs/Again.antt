@@ -9,11 +9,12 @@ use Rattle.sl_types.specs.declared.kinds.Rule.{Rule}
 use Rattle.sl_types.specs.declared.kinds.TheConstants.{MAX_SCORE}
 use Rattle.sl_types.specs.Market.{list_of}
 use Rattle.sl_types.specs.Valid.{IsValid}
+use Rattle.sl_codes.specs.Fields.{number_in}
 use Rattle.sl_codes.specs.Codes.{number_of}
 use Rattle.sl_codes.specs.Records.{Record, field_of}
 use Rattle.sl_instance.specs.NamedMarket.{NamedMarket, IsNamed}
 use Rattle.sl_doc.specs.Document.{Document, IsInRange}
-use Rattle.sl_doc.specs.Reading.{number_in, index_of, raise_of, document_of}
+use Rattle.sl_doc.specs.Reading.{index_of, raise_of, document_of}
 use Rattle.sl_doc.specs.ResultText.{choice_record, admit_record, raise_record, limit_records, admit_records}
 use Rattle.sl_doc.proofs.Numbers.{decimal_in, code_found}
 use Rattle.sl_doc.proofs.Placed.{in_order, index_found, no_index}

@@ -9,6 +9,7 @@ use Rattle.std.proofs.lemmas.Slice.Eq.{bytes_eq-Decides}
 use Rattle.std.proofs.lemmas.Slice.Zip.{length-zip}
 use Rattle.sl_types.specs.declared.kinds.Rule.{Rule}
 use Rattle.sl_types.specs.declared.kinds.Entry.{Entry}
+use Rattle.sl_codes.specs.Fields.{number_in}
 use Rattle.sl_codes.specs.declared.faults.Cause.TheVariants.{OutOfOrder, AfterEnd}
 use Rattle.sl_codes.specs.Faults.{record_cause}
 use Rattle.sl_codes.specs.Records.{Record, field_of}
@@ -16,7 +17,7 @@ use Rattle.sl_codes.proofs.FirstFault.{neither, unbroken}
 use Rattle.sl_instance.specs.NamedMarket.{NamedMarket}
 use Rattle.sl_doc.specs.Document.{Document, IsInRange}
 use Rattle.sl_doc.specs.Drafts.{no_document, with_row, is_end_at, taken_cause, HasRanges, IsDraft}
-use Rattle.sl_doc.specs.Reading.{number_in, has_word, is_end, has_end, naming_cause, index_of, standing_cause, most_records, result_form, pool_rows, applicant_rows, document_of}
+use Rattle.sl_doc.specs.Reading.{has_word, is_end, has_end, naming_cause, index_of, standing_cause, most_records, result_form, pool_rows, applicant_rows, document_of}
 use Rattle.sl_doc.proofs.Ranges.{ranges_more}
 use Rattle.sl_doc.proofs.Recorded.{document_more, document_none}
 use Rattle.sl_doc.proofs.Windows.{part_length}

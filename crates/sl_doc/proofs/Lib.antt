@@ -4,11 +4,11 @@ pub mod Fewer
 mod Indexes
 mod Lines
 mod Numbers
-mod Pieces
 mod Placed
 mod PlainText
 mod Ranges
 mod ReadBack
+mod RecordTexts
 mod Recorded
 mod Records
 mod Right

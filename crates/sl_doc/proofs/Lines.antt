@@ -1,5 +1,5 @@
 -- Codes and numbers hold no end of a line.
-use Rattle.std.proofs.Common.{◌≡◌, ◌∙◌, ◌++◌, ◌+◌, ◌<◌, ◌/◌, ◌%◌, ◌&&◌, ℕ, zero, suc, true, false, not, nat_le, List, [], ◌∷◌, length, get_or, slice_get, Some, None, refl, sym, ap, arith, inl, inr}
+use Rattle.std.proofs.Common.{◌≡◌, ◌∙◌, ◌++◌, ◌+◌, ◌<◌, ◌/◌, ◌%◌, ◌&&◌, ℕ, zero, suc, true, false, not, nat_le, List, [], ◌∷◌, length, get_or, None, refl, ap, arith, inl, inr}
 use Rattle.std.specs.Prelude.{◌==◌}
 use Rattle.std.specs.List.{list_any, list_all}
 use Rattle.std.specs.Fmt.{decimal, digits, digits_onto, digit_glyph}
@@ -11,7 +11,7 @@ use Rattle.sl_codes.specs.Faults.{new_code_cause}
 use Rattle.sl_codes.proofs.FirstFault.{new_code_right}
 use Rattle.sl_codes.specs.Fields.{is_code, is_code_byte, has_code_form}
 use Rattle.sl_codes.specs.declared.fields.TheConstants.{MAX_CODE}
-use Rattle.sl_doc.specs.Printing.{ends_line, is_one_line}
+use Rattle.sl_doc.proofs.PlainText.{ends_line, is_one_line}
 
 -- a byte from 0x20 on ends no line
 byte_on : (b : ℕ) → 14 < b → ends_line b ≡ false
@@ -37,15 +37,7 @@ line_of_code code h =
     let bytes = (and_parts (nat_le 1 (length code) && nat_le (length code) MAX_CODE) (list_all is_code_byte code) form).1 in
     rw (bytes_on code bytes) refl
 
--- the code of a number
-pub line_found : (codes : List (List ℕ)) (k : ℕ) (code : List ℕ) → list_all is_code codes ≡ true → slice_get codes k ≡ Some code → is_one_line code ≡ true
-line_found [] k code h found = cc found
-line_found (c ∷ cs) zero code h found =
-    let is : c ≡ code = cc found in
-    rw (sym is) (line_of_code c (and_parts (is_code c) (list_all is_code cs) h).0)
-line_found (c ∷ cs) (suc k) code h found = line_found cs k code (and_parts (is_code c) (list_all is_code cs) h).1 found
-
--- or nothing past the last
+-- the code of a number, or nothing past the last
 pub line_any : (codes : List (List ℕ)) (k : ℕ) → list_all is_code codes ≡ true → is_one_line (get_or codes k []) ≡ true
 line_any [] k h = refl
 line_any (c ∷ cs) zero h = line_of_code c (and_parts (is_code c) (list_all is_code cs) h).0

@@ -13,19 +13,15 @@ use Rattle.std.proofs.lemmas.List.Sums.{position_or_len_is}
 use Rattle.std.proofs.lemmas.Map.Keys.{apart_from_distinct}
 use Rattle.std.proofs.lemmas.Str.Parse.{IsNumeralModel, numerals_by_value, tells_all_ascii_digits}
 use Rattle.sl_codes.specs.Codes.{number_of}
-use Rattle.sl_codes.specs.Fields.{is_number, number_of_field}
+use Rattle.sl_codes.specs.Fields.{is_number, number_of_field, number_in}
+use Rattle.sl_codes.proofs.FieldLemmas.{digits_alike}
 use Rattle.sl_codes.specs.Faults.{number_cause}
-use Rattle.sl_doc.specs.Reading.{number_in}
 
 own : IsNumeralModel (λ (cs : List ℕ). all_ascii_digits cs ≡ true) (digits_value 10)
 own = numerals_by_value (λ (cs : List ℕ). all_ascii_digits cs ≡ true) tells_all_ascii_digits
 
 wide : (k : ℕ) → k < 10 ^ 9 → k < 2 ^ 64
 wide k small = omega (arith, small)
-
-digits_alike : (ds : List ℕ) → all_ascii_digits ds ≡ list_all is_ascii_digit ds
-digits_alike [] = refl
-digits_alike (d ∷ ds) = rw (digits_alike ds) refl
 
 -- a number of few digits is read as it is written
 pub decimal_read : (k : ℕ) → k < 10 ^ 9 → number_of_field (decimal k) ≡ Some k

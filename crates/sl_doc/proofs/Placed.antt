@@ -4,6 +4,7 @@ use Rattle.std.specs.List.{list_any, position_or_len}
 use Rattle.std.proofs.lemmas.Bool.{and_parts, or_parts, cases_Bool, not-false, leb-false}
 use Rattle.std.proofs.lemmas.Bool.Decides.{eqb_tells}
 use Rattle.std.proofs.lemmas.List.Sums.{position_or_len_is}
+use Rattle.sl_codes.proofs.Lists.{differ, agree}
 use Rattle.sl_codes.proofs.FirstFault.{neither}
 use Rattle.sl_types.specs.declared.kinds.Entry.{Entry}
 use Rattle.sl_types.specs.declared.kinds.TheConstants.{MAX_PLACE}
@@ -86,19 +87,13 @@ rises_on low (e ∷ es) h j zero d lt within = absurd (omega (arith, lt))
 rises_on low (e ∷ es) h zero (suc k) d lt within = let parts = and_parts (nat_lt low e.place) (rises_from e.place es) h in rises_above e.place es parts.1 k d (omega (arith, within))
 rises_on low (e ∷ es) h (suc j) (suc k) d lt within = let parts = and_parts (nat_lt low e.place) (rises_from e.place es) h in rises_on e.place es parts.1 j k d (omega (arith, lt)) (omega (arith, within))
 
-differ : (a b : ℕ) → (a ≡ b → ⊥) → nat_eq a b ≡ false
-differ a b h = elim (eqb_tells a b) [ inl e ↦ absurd (h e.1) | inr e ↦ e.0 ]
-
-agree : (a : ℕ) → nat_eq a a ≡ true
-agree a = elim (eqb_tells a a) [ inl e ↦ e.0 | inr e ↦ absurd (e.1 refl) ]
-
 -- the choice at its place, of its programme, has its index
 pub index_found : (market : Market) (l : List Entry) → IsOrdered market l → (i : ℕ) (d : Entry) → i < length l → choice_index l (get_or l i d).place (Some (get_or l i d).prog.0) ≡ i
 index_found market l ordered i d lt =
     let e = get_or l i d in
     position_or_len_is (is_choice e.place e.prog.0) l i d (omega (arith, lt))
     (λ j below. let less = rises_on 0 l ordered.rises j i d below lt in let no = differ (get_or l j d).place e.place (λ same. absurd (omega (arith, less, same))) in rw no refl)
-    (λ within. rw (agree e.place, agree e.prog.0) refl)
+    (λ within. rw (agree e.place e.place refl, agree e.prog.0 e.prog.0 refl) refl)
 
 -- at place 0 there is none
 pub no_index : (market : Market) (l : List Entry) → IsOrdered market l → (o : Option ℕ) → choice_index l 0 o ≡ length l

@@ -9,14 +9,14 @@ use Rattle.sl_types.specs.declared.kinds.TheConstants.{MAX_SCORE, MAX_APPLICANTS
 use Rattle.sl_types.specs.Market.{list_of}
 use Rattle.sl_codes.specs.declared.faults.Cause.TheVariants.{BadNumber, UnknownPool}
 use Rattle.sl_codes.specs.Codes.{has_code, number_of}
-use Rattle.sl_codes.specs.Fields.{number_of_field, number_within}
+use Rattle.sl_codes.specs.Fields.{number_of_field, number_within, number_in}
 use Rattle.sl_codes.specs.Faults.{number_cause}
 use Rattle.sl_codes.specs.Records.{Record, field_of}
 use Rattle.sl_codes.proofs.FirstFault.{neither, unbroken}
 use Rattle.sl_instance.specs.NamedMarket.{NamedMarket}
 use Rattle.sl_doc.specs.Document.{Document}
 use Rattle.sl_doc.specs.Drafts.{with_row, with_limit, with_admit, with_closing, with_raise, HasRanges}
-use Rattle.sl_doc.specs.Reading.{number_in, is_raise, limit_cause, index_of, raise_cause, closing_cause, standing_cause}
+use Rattle.sl_doc.specs.Reading.{is_raise, limit_cause, index_of, raise_cause, closing_cause, standing_cause}
 use Rattle.sl_doc.proofs.Indexes.{index_low}
 use Rattle.sl_doc.proofs.Windows.{all_more}
 

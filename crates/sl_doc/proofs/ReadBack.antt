@@ -16,10 +16,10 @@ use Rattle.sl_types.specs.Valid.{applicant_numbers}
 use Rattle.sl_codes.specs.Records.{Record, records_of}
 use Rattle.sl_instance.specs.NamedMarket.{NamedMarket, IsNamed}
 use Rattle.sl_doc.specs.Document.{Document}
-use Rattle.sl_doc.specs.Printing.{is_one_line, AreOneLine}
-use Rattle.sl_doc.specs.ResultText.{text_of_record, version_record, rule_record, limit_record, choice_record, admit_record, raise_record, end_record, limit_records, admit_records, raise_records, head_records, content_records, body_records, result_records, result_text}
+use Rattle.sl_codes.specs.RecordText.{text_of_record}
+use Rattle.sl_doc.specs.ResultText.{version_record, rule_record, limit_record, choice_record, admit_record, raise_record, end_record, limit_records, admit_records, raise_records, head_records, content_records, body_records, result_records, result_text}
 use Rattle.sl_doc.proofs.Lines.{line_any, line_of_number}
-use Rattle.sl_doc.proofs.PlainText.{row_plain}
+use Rattle.sl_doc.proofs.PlainText.{is_one_line, AreOneLine, row_plain}
 
 -- a record that `csv` writes as the format does and reads back
 abbrev pub IsPlain : Record → Type 0

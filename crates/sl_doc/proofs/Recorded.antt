@@ -7,10 +7,11 @@ use Rattle.std.proofs.lemmas.List.Elements.{filter-append}
 use Rattle.std.proofs.Math.Seq.{drop-nil}
 use Rattle.sl_types.specs.declared.kinds.Entry.{Entry}
 use Rattle.sl_types.specs.Market.{list_of}
+use Rattle.sl_codes.specs.Fields.{number_in}
 use Rattle.sl_codes.specs.Records.{Record, field_of}
 use Rattle.sl_instance.specs.NamedMarket.{NamedMarket}
 use Rattle.sl_doc.specs.Drafts.{no_document, with_row, with_limit, with_admit, with_closing}
-use Rattle.sl_doc.specs.Reading.{number_in, is_raise, index_of, raise_of, pool_rows, applicant_rows, raise_rows, document_of}
+use Rattle.sl_doc.specs.Reading.{is_raise, index_of, raise_of, pool_rows, applicant_rows, raise_rows, document_of}
 use Rattle.sl_doc.proofs.Windows.{part_past, part_more, part_before, part_length, rest_before, rest_more, zip_none, zip_more}
 
 -- a document of lists that are the same

@@ -13,6 +13,15 @@ pub record Document : Type 0 where
   pub admitted : List ℕ
   pub raises : List Raise
 
+-- a document of these lists
+abbrev pub document : List ℕ → List ℕ → List ℕ → List Raise → Document
+document limits counts admitted raises = record {
+  limits = limits;
+  counts = counts;
+  admitted = admitted;
+  raises = raises;
+}
+
 -- the numbers of a document over an instance are in their ranges
 pub record IsInRange (n : NamedMarket) (doc : Document) : Type 0 where
   pub each_limit : length doc.limits ≡ length n.market.pools

@@ -1,6 +1,7 @@
 -- A document that is read record by record.
 use Rattle.std.specs.Prelude.{◌≡◌, ◌≤◌, ◌<◌, ◌+◌, ◌-◌, ◌==◌, ◌&&◌, Bool, true, not, Option, ℕ, List, [], ◌∷◌, ◌++◌, length, slice_index, nat_lt, All, if◌then◌else◌}
 use Rattle.std.specs.Option.{option_or}
+use Rattle.sl_types.specs.declared.kinds.Raise.{Raise}
 use Rattle.sl_types.specs.declared.kinds.Rule.{Rule}
 use Rattle.sl_types.specs.declared.kinds.Entry.{Entry}
 use Rattle.sl_types.specs.declared.kinds.TheConstants.{MAX_SCORE, MAX_APPLICANTS}
@@ -11,36 +12,38 @@ use Rattle.sl_codes.specs.Faults.{cause_if}
 use Rattle.sl_codes.specs.Records.{Record, field_of}
 use Rattle.sl_instance.specs.NamedMarket.{NamedMarket}
 use Rattle.sl_doc.specs.Document.{Document}
-use Rattle.sl_doc.specs.Reading.{number_in, is_raise, is_end, has_end, index_of, raise_of, standing_cause, document_of}
+use Rattle.sl_codes.specs.Fields.{number_in}
+use Rattle.sl_doc.specs.Reading.{is_raise, is_end, has_end, index_of, raise_of, standing_cause, document_of}
 
 -- a document of which nothing was read
 abbrev pub no_document : Document
 no_document = record { limits = []; counts = []; admitted = []; raises = [] }
 
+-- a document with the limit and the count of one more pool
+abbrev pub and_limit : Document → ℕ → ℕ → Document
+and_limit doc limit count = record doc { limits = doc.limits ++ limit ∷ []; counts = doc.counts ++ count ∷ [] }
+
+-- with the admission of one more applicant
+abbrev pub and_admission : Document → ℕ → Document
+and_admission doc index = record doc { admitted = doc.admitted ++ index ∷ [] }
+
+-- with one more raise
+abbrev pub and_raise : Document → Raise → Document
+and_raise doc raise = record doc { raises = doc.raises ++ raise ∷ [] }
+
 -- a document and what one more record holds
 abbrev pub with_limit : Document → Record → Document
-with_limit doc row = record {
-  limits = doc.limits ++ number_in (field_of row 2) ∷ [];
-  counts = doc.counts ++ number_in (field_of row 3) ∷ [];
-  admitted = doc.admitted;
-  raises = doc.raises;
-}
+with_limit doc row = and_limit doc (number_in (field_of row 2)) (number_in (field_of row 3))
 
 abbrev pub with_admit : List (List ℕ) → List Entry → Document → Record → Document
-with_admit progs choices doc row = record {
-  limits = doc.limits;
-  counts = doc.counts;
-  admitted = doc.admitted ++ index_of progs choices row ∷ [];
-  raises = doc.raises;
-}
+with_admit progs choices doc row = and_admission doc (index_of progs choices row)
+
+-- the same of the applicant with a number
+abbrev pub with_applicant : NamedMarket → ℕ → Document → Record → Document
+with_applicant n a doc row = with_admit n.prog_codes (list_of n.market a) doc row
 
 abbrev pub with_raise : List (List ℕ) → Document → Record → Document
-with_raise pools doc row = record {
-  limits = doc.limits;
-  counts = doc.counts;
-  admitted = doc.admitted;
-  raises = doc.raises ++ raise_of pools row ∷ [];
-}
+with_raise pools doc row = and_raise doc (raise_of pools row)
 
 abbrev pub with_closing : List (List ℕ) → Document → Record → Document
 with_closing pools doc row = if is_raise row then with_raise pools doc row else doc
@@ -50,7 +53,8 @@ abbrev pub with_row : NamedMarket → ℕ → Document → Record → Document
 with_row n k doc row =
     if k == 0 then doc
     else if nat_lt (k - 1) (length n.market.pools) then with_limit doc row
-    else if nat_lt (k - 1 - length n.market.pools) (length n.market.lists) then with_admit n.prog_codes (list_of n.market (k - 1 - length n.market.pools)) doc row
+    else if nat_lt (k - 1 - length n.market.pools) (length n.market.lists)
+    then with_applicant n (k - 1 - length n.market.pools) doc row
     else with_closing n.pool_codes doc row
 
 -- a record at which the document ends: only where all pools and applicants have theirs

@@ -1,7 +1,6 @@
 pub mod Document
 pub mod Drafts
 pub mod Laws
-pub mod Printing
 pub mod Reading
 pub mod ResultText
 pub mod VerdictText

@@ -1,5 +1,5 @@
 -- Result documents that are read: what is wrong with them, and what they hold.
-use Rattle.std.specs.Prelude.{◌+◌, ◌-◌, ◌^◌, ◌==◌, ◌&&◌, not, Bool, ℕ, List, [], length, map, filter, take, drop, zip, get_or, codes, nat_eq, nat_lt, is_none, cond, if◌then◌else◌, unwrap_or, Option, Some, None}
+use Rattle.std.specs.Prelude.{◌+◌, ◌-◌, ◌^◌, ◌==◌, ◌&&◌, not, Bool, ℕ, List, [], length, map, filter, take, drop, zip, get_or, codes, nat_eq, nat_lt, is_none, if◌then◌else◌, unwrap_or, Option, Some, None}
 use Rattle.std.specs.Option.{option_or}
 use Rattle.std.specs.List.{list_any, position_or_len}
 use Rattle.std.specs.Str.{bytes_eq}
@@ -13,16 +13,12 @@ use Rattle.sl_codes.specs.declared.faults.Cause.TheVariants.{BadNumber, UnknownP
 use Rattle.sl_codes.specs.declared.faults.Table.TheVariants.{Results}
 use Rattle.sl_codes.specs.declared.faults.TableFault.{TableFault}
 use Rattle.sl_codes.specs.Codes.{number_of}
-use Rattle.sl_codes.specs.Fields.{number_of_field}
+use Rattle.sl_codes.specs.Fields.{number_of_field, number_in}
 use Rattle.sl_codes.specs.Faults.{Form, cause_if, name_cause, number_cause, pass_fault, first_fault}
 use Rattle.sl_codes.specs.Records.{Record, field_of}
 use Rattle.sl_instance.specs.NamedMarket.{NamedMarket}
 use Rattle.sl_doc.specs.Document.{Document}
 use Rattle.sl_doc.specs.ResultText.{version_record, rule_letter}
-
--- the number that a field stands for, or 0
-abbrev pub number_in : List ℕ → ℕ
-number_in field = unwrap_or (number_of_field field) 0
 
 -- whether the first field of a record is this word
 abbrev pub has_word : List ℕ → Record → Bool
@@ -49,9 +45,13 @@ empty_cause field = cause_if (not (is_empty field)) NotEmpty
 abbrev pub word_cause : List ℕ → Record → Option Cause
 word_cause word row = cause_if (not (has_word word row)) OutOfOrder
 
--- what is wrong with the first two fields of a record where this word and this code must stand
+-- whether the first two fields of a record are this word and this code
+abbrev pub has_naming : List ℕ → List ℕ → Record → Bool
+has_naming word code row = has_word word row && bytes_eq (field_of row 1) code
+
+-- what is wrong with the first two fields of a record where they must stand
 abbrev pub naming_cause : List ℕ → List ℕ → Record → Option Cause
-naming_cause word code row = cause_if (not (has_word word row && bytes_eq (field_of row 1) code)) OutOfOrder
+naming_cause word code row = cause_if (not (has_naming word code row)) OutOfOrder
 
 -- `rule,R,,`
 abbrev pub rule_cause : Rule → Record → Option Cause
@@ -122,18 +122,26 @@ closing_cause pools count row =
     else if is_end row then end_cause count row
     else Some OutOfOrder
 
+-- what is wrong with the record of a pool, and with that of an applicant
+abbrev pub pool_cause : NamedMarket → ℕ → Record → Option Cause
+pool_cause n P row = limit_cause (get_or n.pool_codes P []) row
+
+abbrev pub applicant_cause : NamedMarket → ℕ → Record → Option Cause
+applicant_cause n a row = admit_cause n.prog_codes (get_or n.app_codes a []) (list_of n.market a) row
+
 -- what is wrong with a record by how many stand between the header and it: the rule's record comes first, then one for
 -- each pool, then one for each applicant, and then raises and the end
 abbrev pub standing_cause : NamedMarket → Rule → ℕ → Record → Option Cause
 standing_cause n rule k row =
     if k == 0 then rule_cause rule row
-    else if nat_lt (k - 1) (length n.market.pools) then limit_cause (get_or n.pool_codes (k - 1) []) row
+    else if nat_lt (k - 1) (length n.market.pools) then pool_cause n (k - 1) row
     else if nat_lt (k - 1 - length n.market.pools) (length n.market.lists)
-    then admit_cause n.prog_codes (get_or n.app_codes (k - 1 - length n.market.pools) []) (list_of n.market (k - 1 - length n.market.pools)) row
+    then applicant_cause n (k - 1 - length n.market.pools) row
     else closing_cause n.pool_codes (k + 1) row
 
 abbrev pub result_cause : NamedMarket → Rule → List Record → Record → Option Cause
-result_cause n rule before row = option_or (cause_if (has_end before) AfterEnd) (standing_cause n rule (length before) row)
+result_cause n rule before row =
+    option_or (cause_if (has_end before) AfterEnd) (standing_cause n rule (length before) row)
 
 -- more records than a file can have
 abbrev pub most_records : ℕ
@@ -150,7 +158,7 @@ result_form n rule = record {
 
 -- the fault of records after the header of which none is the end; it is at one more than the last
 abbrev pub end_fault : List Record → Option TableFault
-end_fault rows = pass_fault Results NoEnd (cond (has_end rows) None (Some (length rows)))
+end_fault rows = pass_fault Results NoEnd (if has_end rows then None else Some (length rows))
 
 -- the first fault of a document over an instance with its codes
 abbrev pub doc_fault : NamedMarket → Rule → List Record → Option TableFault
@@ -168,7 +176,10 @@ raise_rows n rows = filter is_raise (drop (1 + length n.market.pools + length n.
 
 -- the raise of a record, over pools of these codes
 abbrev pub raise_of : List (List ℕ) → Record → Raise
-raise_of pools row = record { pool = record { 0 = unwrap_or (number_of pools (field_of row 1)) 0 }; limit = number_in (field_of row 2) }
+raise_of pools row = record {
+  pool = record { 0 = unwrap_or (number_of pools (field_of row 1)) 0 };
+  limit = number_in (field_of row 2);
+}
 
 -- the document that the records after the header hold
 abbrev pub document_of : NamedMarket → List Record → Document

@@ -1,7 +1,6 @@
 -- The text of a result document, record by record.
-use Rattle.std.specs.Prelude.{ℕ, ◌==◌, ◌||◌, Bool, List, [], ◌∷◌, ◌++◌, length, map, get_or, slice_get, slice_index, codes, flat_map, if◌then◌else◌, Option, Some, None}
+use Rattle.std.specs.Prelude.{ℕ, List, [], ◌∷◌, ◌++◌, length, map, get_or, slice_get, slice_index, codes, flat_map, Option, Some, None}
 use Rattle.std.specs.Fmt.{decimal}
-use Rattle.std.specs.List.{list_any}
 use Rattle.sl_types.specs.declared.kinds.Entry.{Entry}
 use Rattle.sl_types.specs.declared.kinds.Raise.{Raise}
 use Rattle.sl_types.specs.declared.kinds.Rule.{Rule}
@@ -9,39 +8,9 @@ use Rattle.sl_types.specs.declared.kinds.Rule.TheVariants.{H, L, Merit}
 use Rattle.sl_types.specs.Market.{list_of, pool_numbers}
 use Rattle.sl_types.specs.Valid.{applicant_numbers}
 use Rattle.sl_codes.specs.Records.{Record}
+use Rattle.sl_codes.specs.RecordText.{text_of_record}
 use Rattle.sl_instance.specs.NamedMarket.{NamedMarket}
 use Rattle.sl_doc.specs.Document.{Document}
-
-abbrev pub comma : ℕ
-comma = 0x2C
-
-abbrev pub quote : ℕ
-quote = 0x22
-
-abbrev pub line_feed : ℕ
-line_feed = 0x0A
-
--- each double quote twice
-unfoldable pub doubled : List ℕ → List ℕ
-doubled [] = []
-doubled (b ∷ rest) = if b == quote then quote ∷ quote ∷ doubled rest else b ∷ doubled rest
-
-abbrev pub is_set_apart : ℕ → Bool
-is_set_apart b = b == comma || b == quote
-
--- a field is quoted exactly where it holds a comma or a double quote
-abbrev pub field_text : List ℕ → List ℕ
-field_text field = if list_any is_set_apart field then quote ∷ (doubled field ++ quote ∷ []) else field
-
--- the fields after the first, each behind a comma
-unfoldable pub later_text : Record → List ℕ
-later_text [] = []
-later_text (field ∷ rest) = comma ∷ (field_text field ++ later_text rest)
-
--- the line of a record
-abbrev pub text_of_record : Record → List ℕ
-text_of_record [] = line_feed ∷ []
-text_of_record (field ∷ rest) = field_text field ++ (later_text rest ++ line_feed ∷ [])
 
 -- a record of a result has four fields
 abbrev pub four : List ℕ → List ℕ → List ℕ → List ℕ → Record
@@ -62,7 +31,9 @@ rule_record rule = four (codes "rule") (rule_letter rule) [] []
 
 -- of a pool: its published limit, and how many it admits
 abbrev pub limit_record : NamedMarket → Document → ℕ → Record
-limit_record n doc P = four (codes "limit") (get_or n.pool_codes P []) (decimal (slice_index doc.limits P)) (decimal (slice_index doc.counts P))
+limit_record n doc P =
+    four (codes "limit") (get_or n.pool_codes P [])
+    (decimal (slice_index doc.limits P)) (decimal (slice_index doc.counts P))
 
 -- of an applicant with this code: the place and the programme of the admitted choice, or place 0 and no programme
 abbrev pub choice_record : NamedMarket → List ℕ → Option Entry → Record
@@ -71,7 +42,8 @@ choice_record n code (Some e) = four (codes "admit") code (decimal e.place) (get
 
 -- of an applicant, by the place in their list of the admitted choice
 abbrev pub admit_record : NamedMarket → Document → ℕ → Record
-admit_record n doc a = choice_record n (get_or n.app_codes a []) (slice_get (list_of n.market a) (slice_index doc.admitted a))
+admit_record n doc a =
+    choice_record n (get_or n.app_codes a []) (slice_get (list_of n.market a) (slice_index doc.admitted a))
 
 -- of a raise: its pool and its limit
 abbrev pub raise_record : NamedMarket → Raise → Record

@@ -13,9 +13,9 @@ pub struct Doc {
 }
 
 impl Model for Doc {
-    ghost use Rattle.sl_doc.specs.Document.{Document};
+    ghost use Rattle.sl_doc.specs.Document.{Document, document};
 
     ghost Value = { Document };
 
-    ghost view = { λ s. record { limits = s.limits.items; counts = s.counts.items; admitted = s.admitted.items; raises = s.raises.items } };
+    ghost view = { λ s. document s.limits.items s.counts.items s.admitted.items s.raises.items };
 }

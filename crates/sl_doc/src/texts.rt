@@ -1,11 +1,6 @@
-ghost use Rattle.std.specs.Prelude.{◌≡◌, ◌<◌, [], true, length, get_or};
-ghost use Rattle.std.specs.List.{list_all};
-ghost use Rattle.std.specs.Fmt.{decimal};
-ghost use Rattle.sl_codes.specs.Fields.{is_code};
-ghost use Rattle.sl_doc.specs.Printing.{is_one_line};
+ghost use Rattle.std.specs.Prelude.{◌≡◌, ◌<◌, [], length, get_or};
 ghost use Rattle.sl_doc.specs.ResultText.{rule_letter};
 
-use itoa::Buffer;
 use sl_codes::Codes;
 use sl_instance::Named;
 use sl_types::{AppId, PoolId, ProgId, Rule};
@@ -23,10 +18,8 @@ pub fn letter(rule: Rule) -> &'static str
 
 // The code of a number.
 fn code(codes: &Codes, number: u32) -> &str
-    requires within { number < length codes.now }
-    requires coded { list_all is_code codes.now ≡ true }
-    ensures code { result.now ≡ get_or codes.now number [] }
-    ensures line { is_one_line result.now ≡ true }
+    requires { number < length codes.now }
+    ensures { result.now ≡ get_or codes.now number [] }
 {
     codes.text(number)
 }
@@ -34,8 +27,7 @@ fn code(codes: &Codes, number: u32) -> &str
 /// The code of a pool.
 pub fn pool_code(named: &Named, pool: PoolId) -> &str
     requires { pool.0 < length named.now.market.pools }
-    ensures code { result.now ≡ get_or named.now.pool_codes pool.0 [] }
-    ensures line { is_one_line result.now ≡ true }
+    ensures { result.now ≡ get_or named.now.pool_codes pool.0 [] }
 {
     let _instance = named.instance();
     code(named.pool_codes(), pool.0)
@@ -44,8 +36,7 @@ pub fn pool_code(named: &Named, pool: PoolId) -> &str
 /// The code of a programme.
 pub fn prog_code(named: &Named, prog: ProgId) -> &str
     requires { prog.0 < length named.now.market.progs }
-    ensures code { result.now ≡ get_or named.now.prog_codes prog.0 [] }
-    ensures line { is_one_line result.now ≡ true }
+    ensures { result.now ≡ get_or named.now.prog_codes prog.0 [] }
 {
     let _instance = named.instance();
     code(named.prog_codes(), prog.0)
@@ -54,27 +45,8 @@ pub fn prog_code(named: &Named, prog: ProgId) -> &str
 /// The code of an applicant.
 pub fn app_code(named: &Named, app: AppId) -> &str
     requires { app.0 < length named.now.market.lists }
-    ensures code { result.now ≡ get_or named.now.app_codes app.0 [] }
-    ensures line { is_one_line result.now ≡ true }
+    ensures { result.now ≡ get_or named.now.app_codes app.0 [] }
 {
     let _instance = named.instance();
     code(named.app_codes(), app.0)
-}
-
-/// The digits of a number.
-#[tactic(auto, using(crate::proofs::Lines::line_of_number))]
-pub fn digits(buffer: &mut Buffer, number: u32) -> &str
-    ensures text { result.now ≡ decimal number }
-    ensures line { is_one_line result.now ≡ true }
-{
-    buffer.format(number)
-}
-
-/// The digits of a count.
-#[tactic(auto, using(crate::proofs::Lines::line_of_number))]
-pub fn long_digits(buffer: &mut Buffer, count: usize) -> &str
-    ensures text { result.now ≡ decimal count }
-    ensures line { is_one_line result.now ≡ true }
-{
-    buffer.format(count)
 }

@@ -1,8 +1,6 @@
 -- Who is admitted in a score pool as its own number changes.
-use Rattle.std.proofs.Common.{◌≡◌, ◌≢◌, ℕ, ◌+◌, ◌<◌, ◌≤◌, Bool, true, false, ◌||◌, List, ◌∷◌, length, drop, get_or, Option, refl, sym, ap, ◌∙◌, inl, inr, nat_le}
+use Rattle.std.proofs.Common.{◌≡◌, ◌≢◌, ℕ, Bool, true, false, ◌||◌, List, ◌∷◌, refl, ap, ◌∙◌, inl, inr, nat_le}
 use Rattle.std.proofs.lemmas.Bool.{cases_Bool}
-use Rattle.std.proofs.lemmas.List.{drop_more, drop_all}
-use Rattle.std.proofs.Math.Bool.{or-false, or_assoc}
 use Rattle.sl_types.specs.declared.kinds.Entry.{Entry}
 use Rattle.sl_types.specs.Market.{Market, pool_of, lies_in}
 use Rattle.sl_types.specs.WellFormed.{IsWellFormed}
@@ -10,15 +8,10 @@ use Rattle.sl_laws.specs.Laws.{IsScorePool}
 use Rattle.sl_laws.specs.Limits.{Limits, with_limit, effective_limit, is_eligible, is_admitted_in}
 use Rattle.sl_laws.proofs.Effective.{with_limit_here, effective_outside, effective_alone, inside_alone}
 use Rattle.sl_laws.proofs.Nest.{lies_own}
-use Rattle.sl_flat.specs.Standing.{reaches}
 
 -- whether an applicant of these choices is admitted in P with its number y
 abbrev pub stays_in : Market → Limits → ℕ → ℕ → List Entry → Bool
 stays_in market t P y es = is_admitted_in market (with_limit t P y) P es
-
--- what is read past the end of a list of choices
-abbrev pub no_entry : Entry
-no_entry = record { place = 0; prog = record { 0 = 0 }; score = 0 }
 
 module _ (market : Market) (ok : IsWellFormed market) (t : Limits) (P : ℕ) (score : IsScorePool market P) where
   -- a choice in P admits where its score is at least y
@@ -49,31 +42,3 @@ module _ (market : Market) (ok : IsWellFormed market) (t : Limits) (P : ℕ) (sc
   -- any other choice elsewhere admits nowhere
   pub passed_over : (y : ℕ) (e : Entry) (es : List Entry) → pool_of market e ≢ P → is_eligible market t e ≡ false → stays_in market t P y (e ∷ es) ≡ stays_in market t P y es
   passed_over y e es other never = rw (same_elsewhere y e other ∙ never) refl
-
-  -- what is known of the first i choices, and the rest
-  abbrev pub seen : ℕ → Option ℕ → List Entry → Bool
-  seen y best es = reaches y best || stays_in market t P y es
-
-  -- a choice in P that is passed
-  pub seen_here : (es : List Entry) (i : ℕ) (d : Entry) (best next : Option ℕ) (y : ℕ) → i < length es → pool_of market (get_or es i d) ≡ P
-      → reaches y next ≡ (reaches y best || nat_le y (get_or es i d).score) → seen y best (drop i es) ≡ seen y next (drop (i + 1) es)
-  seen_here es i d best next y h in_P up =
-      let e = get_or es i d in
-      let rest = drop (i + 1) es in
-      ap (seen y best) (drop_more es i d h) ∙ (ap (λ b. reaches y best || b) (here_first y e rest in_P)
-      ∙ (sym (or_assoc (reaches y best) (nat_le y e.score) (stays_in market t P y rest)) ∙ ap (λ b. b || stays_in market t P y rest) (sym up)))
-
-  -- a choice elsewhere that isn't eligible
-  pub seen_over : (es : List Entry) (i : ℕ) (d : Entry) (best : Option ℕ) (y : ℕ) → i < length es → pool_of market (get_or es i d) ≢ P → is_eligible market t (get_or es i d) ≡ false
-      → seen y best (drop i es) ≡ seen y best (drop (i + 1) es)
-  seen_over es i d best y h other never = ap (seen y best) (drop_more es i d h) ∙ ap (λ b. reaches y best || b) (passed_over y (get_or es i d) (drop (i + 1) es) other never)
-
-  -- one that is
-  pub seen_stop : (es : List Entry) (i : ℕ) (d : Entry) (best : Option ℕ) (y : ℕ) → i < length es → pool_of market (get_or es i d) ≢ P → is_eligible market t (get_or es i d) ≡ true
-      → seen y best (drop i es) ≡ reaches y best
-  seen_stop es i d best y h other able =
-      ap (seen y best) (drop_more es i d h) ∙ (ap (λ b. reaches y best || b) (elsewhere_first y (get_or es i d) (drop (i + 1) es) other able) ∙ or-false (reaches y best))
-
-  -- the end of the list
-  pub seen_end : (es : List Entry) (i : ℕ) (best : Option ℕ) (y : ℕ) → length es ≤ i → seen y best (drop i es) ≡ reaches y best
-  seen_end es i best y h = ap (seen y best) (drop_all i es h) ∙ or-false (reaches y best)

@@ -1,69 +1,50 @@
-// The scores with which the contenders of a score pool stand there.
-ghost use Rattle.std.specs.Prelude.{◌≡◌, ◌||◌, ◌<◌, ℕ, All, length, nat_le, slice_index};
-ghost use Rattle.sl_types.specs.WellFormed.{IsWellFormed};
+// Where the offers that count pass the quota of a score pool.
+ghost use Rattle.std.specs.Prelude.{◌≡◌, ◌<◌, length, slice_index, IfNone, IfSome};
 ghost use Rattle.sl_laws.specs.Laws.{IsScorePool};
-ghost use Rattle.sl_laws.specs.Limits.{demand};
 ghost use Rattle.sl_contend.specs.Contention.{contention_of};
-ghost use Rattle.sl_contend.specs.Scores.{HasRoomFor, reaching};
-ghost use Rattle.sl_flat.specs.Standing.{reaches, IsStanding};
+ghost use Rattle.sl_flat.specs.Counting.{AllFit, IsPassing};
 
-use sl_contend::{Contenders, Scratch};
-use sl_laws::plain_eff;
-use sl_types::{Entry, Instance, PoolId};
+use crate::leading::counts;
+use sl_contend::Contenders;
+use sl_types::{Instance, PoolId};
 
-// The greater of a score and one that there may be.
-fn greater(best: Option<u32>, score: u32) -> Option<u32>
-    ensures { (y : ℕ) → reaches y result ≡ (reaches y best || nat_le y score) }
-{
-    match best {
-        Some(other) if other >= score => best,
-        _ => Some(score),
-    }
+// The scores of the last offer within a quota, and of the first past it.
+#[derive(Clone, Copy)]
+pub struct Passing {
+    pub last: u32,
+    pub next: u32,
 }
 
-// The greatest limit of a score pool at which an applicant would be admitted in it, if there is one: the
-// greatest score of their choices there that come before the first eligible choice elsewhere.
-fn standing(instance: &Instance, reads: &[u32], pool: PoolId, choices: &[Entry]) -> Option<u32>
-    requires sizes { length reads.now ≡ length instance.now.pools }
-    requires fit { IsWellFormed instance.now }
-    requires score { IsScorePool instance.now pool.0 }
-    requires within { All (λ e. e.prog.0 < length instance.now.progs) choices.now }
-    ensures { IsStanding instance.now (slice_index reads.now) pool.0 choices.now result }
-{
-    let mut best = None;
-    for choice in choices {
-        let here = instance.pool_of(choice.prog);
-        if here.0 == pool.0 {
-            best = greater(best, choice.score);
-        } else if plain_eff(instance, reads, here) <= choice.score {
-            return best;
-        }
-    }
-    best
-}
-
-// Puts the scores into the scratch with which the contenders of a score pool stand there. How many of them
-// reach a limit is the demand for the pool at that limit.
-pub fn gather(
+// The scores of the last offer that counts within the quota of a score pool, and of the first past it, if so
+// many count. The offers are looked at from the greatest score down, and no further than that.
+pub fn find_passing(
     instance: &Instance,
     contenders: &Contenders,
     pool: PoolId,
     reads: &[u32],
-    scratch: &mut Scratch,
-)
+) -> Option<Passing>
     requires contenders { contenders.now ≡ contention_of instance.now }
-    requires scratch { HasRoomFor instance.now scratch.old }
     requires sizes { length reads.now ≡ length instance.now.pools }
     requires within { pool.0 < length instance.now.pools }
     requires score { IsScorePool instance.now pool.0 }
-    ensures demand { (y : ℕ) → reaching scratch.new.scores y ≡ demand instance.now (slice_index reads.now) pool.0 y }
-    ensures scratch { HasRoomFor instance.now scratch.new }
+    ensures none { IfNone result (AllFit instance.now (slice_index reads.now) pool.0) }
+    ensures some { IfSome result (IsPassing instance.now (slice_index reads.now) pool.0) }
 {
     let _pools = instance.pools();
-    scratch.clear();
-    for app in contenders.of(pool) {
-        if let Some(score) = standing(instance, reads, pool, instance.list(*app)) {
-            scratch.push(score);
+    let quota = instance.pool(pool).quota;
+    let mut count = 0;
+    let mut last = 0;
+    for offer in contenders.offers(pool) {
+        if counts(instance, reads, pool, *offer) {
+            if count == quota {
+                return Some(Passing {
+                    last,
+                    next: offer.score,
+                });
+            }
+            count += 1;
+            last = offer.score;
         }
     }
+    None
 }

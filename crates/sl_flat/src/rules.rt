@@ -1,4 +1,4 @@
-use crate::counting::gather;
+use crate::counting::find_passing;
 use sl_contend::{Contenders, RaiseRule, Scratch};
 use sl_types::{Instance, PoolId};
 
@@ -12,20 +12,21 @@ pub struct HRule;
 pub struct LRule;
 
 impl RaiseRule for HRule {
-    ghost use Rattle.std.specs.Prelude.{◌≡◌};
-    ghost use Rattle.sl_types.specs.Market.{rule_of};
     ghost use Rattle.sl_types.specs.declared.kinds.Rule.TheVariants.{H};
-    ghost use Rattle.sl_contend.proofs.Lawful.{best_passes_none, best_stays_justified, best_is_local, covered_stays_settled};
+    ghost use Rattle.sl_contend.specs.Rule.{HasRule};
+    ghost use Rattle.sl_contend.proofs.Lawful.{raise_passes_none, raise_stays_justified, deciding_number, raise_is_local, pool_stays_settled};
 
-    ghost covers = { λ rule market P. rule_of market P ≡ H };
+    ghost covers = { λ rule. HasRule H };
 
-    ghost passes_none = { λ rule. best_passes_none (λ market P. rule_of market P ≡ H) };
+    ghost passes_none = { λ rule. raise_passes_none (HasRule H) };
 
-    ghost stays_justified = { λ rule. best_stays_justified (λ market P. rule_of market P ≡ H) };
+    ghost stays_justified = { λ rule. raise_stays_justified (HasRule H) };
 
-    ghost is_local = { λ rule. best_is_local (λ market P. rule_of market P ≡ H) };
+    ghost deciding = { λ rule. deciding_number (HasRule H) };
 
-    ghost stays_settled = { λ rule. covered_stays_settled (λ market P. rule_of market P ≡ H) };
+    ghost is_local = { λ rule. raise_is_local (HasRule H) };
+
+    ghost stays_settled = { λ rule. pool_stays_settled (HasRule H) };
 
     fn best(
         &self,
@@ -36,30 +37,29 @@ impl RaiseRule for HRule {
         scratch: &mut Scratch,
     ) -> u32 {
         let _pools = instance.pools();
-        gather(instance, contenders, pool, reads, scratch);
-        let quota = instance.pool(pool).quota as usize;
-        if scratch.len() <= quota {
-            return 0;
+        match find_passing(instance, contenders, pool, reads) {
+            Some(passing) => passing.next + 1,
+            None => 0,
         }
-        scratch.ranked(quota).score + 1
     }
 }
 
 impl RaiseRule for LRule {
-    ghost use Rattle.std.specs.Prelude.{◌≡◌};
-    ghost use Rattle.sl_types.specs.Market.{rule_of};
     ghost use Rattle.sl_types.specs.declared.kinds.Rule.TheVariants.{L};
-    ghost use Rattle.sl_contend.proofs.Lawful.{best_passes_none, best_stays_justified, best_is_local, covered_stays_settled};
+    ghost use Rattle.sl_contend.specs.Rule.{HasRule};
+    ghost use Rattle.sl_contend.proofs.Lawful.{raise_passes_none, raise_stays_justified, deciding_number, raise_is_local, pool_stays_settled};
 
-    ghost covers = { λ rule market P. rule_of market P ≡ L };
+    ghost covers = { λ rule. HasRule L };
 
-    ghost passes_none = { λ rule. best_passes_none (λ market P. rule_of market P ≡ L) };
+    ghost passes_none = { λ rule. raise_passes_none (HasRule L) };
 
-    ghost stays_justified = { λ rule. best_stays_justified (λ market P. rule_of market P ≡ L) };
+    ghost stays_justified = { λ rule. raise_stays_justified (HasRule L) };
 
-    ghost is_local = { λ rule. best_is_local (λ market P. rule_of market P ≡ L) };
+    ghost deciding = { λ rule. deciding_number (HasRule L) };
 
-    ghost stays_settled = { λ rule. covered_stays_settled (λ market P. rule_of market P ≡ L) };
+    ghost is_local = { λ rule. raise_is_local (HasRule L) };
+
+    ghost stays_settled = { λ rule. pool_stays_settled (HasRule L) };
 
     fn best(
         &self,
@@ -70,16 +70,10 @@ impl RaiseRule for LRule {
         scratch: &mut Scratch,
     ) -> u32 {
         let _pools = instance.pools();
-        gather(instance, contenders, pool, reads, scratch);
-        let quota = instance.pool(pool).quota as usize;
-        if scratch.len() <= quota {
-            return 0;
-        }
-        let last = scratch.ranked(quota);
-        if last.above >= quota {
-            last.score + 1
-        } else {
-            last.score
+        match find_passing(instance, contenders, pool, reads) {
+            Some(passing) if passing.next < passing.last => passing.next + 1,
+            Some(passing) => passing.last,
+            None => 0,
         }
     }
 }

@@ -1,6 +1,6 @@
 ghost use Rattle.std.specs.Prelude.{◌≡◌, ◌<◌, ◌≤◌, length};
 ghost use Rattle.sl_contend.specs.Contention.{contention_of};
-ghost use Rattle.sl_contend.specs.Scores.{HasRoomFor};
+ghost use Rattle.sl_contend.specs.Counters.{HasRoomFor};
 
 use super::*;
 use sl_contend::{Contenders, RaiseRule, Scratch};
@@ -9,6 +9,9 @@ use sl_types::{Entry, Instance, Pool, PoolId, ProgId, Rule};
 use std::alloc::Global;
 use std::process::Abort;
 use std::test::Fail;
+
+mod quotas;
+mod two_faculties;
 
 const A: PoolId = PoolId(0);
 
@@ -117,7 +120,7 @@ fn raises_to(
     let mut scratch = Scratch::new(alloc, instance, &contenders)?;
     let found = best_twice(rt, instance, &contenders, pool, reads, &mut scratch);
     assert_eq!(rt; found, best);
-    justified_to(rt, instance, pool, reads, (1, 12), best);
+    justified_to(rt, instance, pool, reads, (1, 16), best);
     justified_to(rt, instance, pool, reads, (446, 455), best);
     Ok(())
 }
@@ -142,32 +145,21 @@ fn crossing_tie(rt: HostRuntime) -> Result<(), Fail> {
     Ok(())
 }
 
-// The scores of the usual file: two programmes in a pool of two places, one in a pool of one place.
-fn two_faculties(alloc: Global, rule: Rule) -> Result<Instance, Fail> {
-    let first = vec![in alloc; choice(1, 2, 447), choice(2, 0, 452)]?;
-    let second = vec![in alloc; choice(1, 2, 461), choice(2, 1, 430)]?;
-    let third = vec![in alloc; choice(1, 0, 452)]?;
-    let fourth = vec![in alloc; choice(1, 1, 455), choice(2, 2, 470)]?;
-    Ok(Instance::new(
-        alloc,
-        vec![in alloc; pool(2, rule), pool(1, rule)]?,
-        vec![in alloc; A, A, B]?,
-        vec![in alloc; first, second, third, fourth]?,
-    )?)
-}
-
+// x has two choices in A, of which the second is the better: it counts, and the first doesn't.
 #[test]
-fn two_faculties_raised(rt: HostRuntime) -> Result<(), Fail> {
+fn two_programmes_in_one_pool(rt: HostRuntime) -> Result<(), Fail> {
     let alloc = rt.alloc();
-    for (rule, faculty) in [(Rule::H, 453), (Rule::L, 452)] {
-        let instance = two_faculties(alloc, rule)?;
-        for (reads, pool, best) in [
-            ([0, 0], A, 0),
-            ([0, 0], B, 448),
-            ([0, 448], A, faculty),
-            ([faculty, 448], B, 448),
-        ] {
-            raises_to(&rt, alloc, &instance, pool, &reads, best)?;
+    for (quota, by_h, by_l) in [(1, 13, 13), (2, 0, 0)] {
+        for (rule, best) in [(Rule::H, by_h), (Rule::L, by_l)] {
+            let x = vec![in alloc; choice(1, 0, 10), choice(2, 1, 14)]?;
+            let y = vec![in alloc; choice(1, 0, 12)]?;
+            let instance = Instance::new(
+                alloc,
+                vec![in alloc; pool(quota, rule)]?,
+                vec![in alloc; A, A]?,
+                vec![in alloc; x, y]?,
+            )?;
+            raises_to(&rt, alloc, &instance, A, &[0], best)?;
         }
     }
     Ok(())
@@ -195,42 +187,6 @@ fn displaced_twice(rt: HostRuntime) -> Result<(), Fail> {
             ([11, 11], B, 11),
         ] {
             raises_to(&rt, alloc, &instance, pool, &reads, best)?;
-        }
-    }
-    Ok(())
-}
-
-// Five apply to one pool, two of them with two choices there, and the second also elsewhere between these. By
-// quota, the best raises by H and by L, with the other pool closed and open to the second.
-#[test]
-fn quotas(rt: HostRuntime) -> Result<(), Fail> {
-    let alloc = rt.alloc();
-    for (quota, other, by_h, by_l) in [
-        (1, 9, 10, 9),
-        (2, 9, 10, 9),
-        (3, 9, 8, 8),
-        (4, 9, 8, 7),
-        (5, 9, 0, 0),
-        (6, 9, 0, 0),
-        (1, 8, 10, 9),
-        (2, 8, 8, 8),
-        (3, 8, 8, 7),
-        (4, 8, 5, 5),
-        (5, 8, 0, 0),
-    ] {
-        for (rule, best) in [(Rule::H, by_h), (Rule::L, by_l)] {
-            let first = vec![in alloc; choice(1, 0, 9), choice(2, 1, 7)]?;
-            let second = vec![in alloc; choice(1, 0, 4), choice(2, 2, 8), choice(3, 1, 9)]?;
-            let third = vec![in alloc; choice(1, 1, 7)]?;
-            let fourth = vec![in alloc; choice(1, 1, 9)]?;
-            let fifth = vec![in alloc; choice(1, 0, 7)]?;
-            let instance = Instance::new(
-                alloc,
-                vec![in alloc; pool(quota, rule), pool(1, Rule::H)]?,
-                vec![in alloc; A, A, B]?,
-                vec![in alloc; first, second, third, fourth, fifth]?,
-            )?;
-            raises_to(&rt, alloc, &instance, A, &[0, other], best)?;
         }
     }
     Ok(())

@@ -1,5 +1,5 @@
 -- What three tables make breaks no rule of an instance.
-use Rattle.std.proofs.Common.{◌≡◌, ◌∙◌, ◌<◌, ◌≤◌, ◌+◌, ◌&&◌, ℕ, zero, suc, Bool, true, false, List, [], ◌∷◌, map, length, get_or, sum_by, nat_eq, nat_lt, nat_le, position, All, None, refl, sym, ap, arith, inl, inr, true≢false, add-one, filter}
+use Rattle.std.proofs.Common.{◌≡◌, ◌∙◌, ◌<◌, ◌≤◌, ◌+◌, ◌&&◌, ℕ, zero, suc, Bool, true, false, List, [], ◌∷◌, map, length, get_or, sum_by, nat_eq, nat_lt, nat_le, position, All, Option, Some, None, refl, sym, ap, arith, inl, inr, true≢false, add-one, filter}
 use native.Mathlib.Numerals.{unary_clauses}
 use Rattle.std.specs.List.{list_all, list_any, IsDistinct, AllByRecursion}
 use Rattle.std.specs.List.Sorted.{IsNonDecreasing, IsStrictlyIncreasing}
@@ -13,16 +13,26 @@ use Rattle.sl_types.specs.declared.kinds.Entry.{Entry}
 use Rattle.sl_types.specs.declared.kinds.TheConstants.{MAX_POOLS, MAX_PROGRAMMES, MAX_APPLICANTS, MAX_CHOICES, MAX_LIST, MAX_PLACE, MAX_SCORE}
 use Rattle.sl_types.specs.Market.{Market, list_of}
 use Rattle.sl_types.specs.Rules.{is_no_pool, is_too_long, has_prog_out, is_misplaced, rises_from, is_out_of_order, has_score_out, names_prog, has_prog_twice}
-use Rattle.sl_types.specs.Stage.{is_in_tree, first_refusal}
-use Rattle.sl_types.specs.Valid.{size_fault, quota_fault, programme_fault, list_fault}
+use Rattle.sl_types.specs.Valid.{IsValid, nesting_fault, merit_fault, size_fault, quota_fault, programme_fault, list_fault}
 use Rattle.sl_types.proofs.Lists.{none_first}
+use Rattle.sl_types.proofs.Alike.{nesting_alike}
+use Rattle.sl_types.proofs.Faultless.{valid_by}
 use Rattle.sl_pools.specs.Pools.{PoolList, IsPoolList}
 use Rattle.sl_pools.specs.Programmes.{ProgList, IsProgList}
 use Rattle.sl_choices.specs.declared.choices.ChoiceRow.{ChoiceRow}
 use Rattle.sl_choices.specs.Choices.{ChoiceList}
 use Rattle.sl_choices.specs.Rows.{rows_of_app, is_row_of, IsChoiceList}
 use Rattle.sl_choices.proofs.Kept.{places_once, progs_once}
-use Rattle.sl_instance.specs.Assembly.{entry_of, AreChoices}
+use Rattle.sl_instance.specs.Assembly.{entry_of, AreChoices, IsKnown}
+use Rattle.sl_instance.specs.Causes as Causes
+use Rattle.sl_instance.specs.Causes.{IsFine, merits_fault, first_against, contradicts, market_before}
+use Rattle.sl_instance.proofs.Agreeing.{no_merit_fault}
+use Rattle.sl_types.proofs.Roots.{nested}
+use Rattle.sl_codes.specs.Faults.{pass_fault}
+use Rattle.sl_codes.specs.declared.faults.Cause.{Cause}
+use Rattle.sl_codes.specs.declared.faults.Cause.TheVariants.{MeritDiffers, MeritTied}
+use Rattle.sl_codes.specs.declared.faults.Table.TheVariants.{Applications}
+use Rattle.sl_codes.proofs.FirstFault.{neither}
 use Rattle.sl_instance.specs.Lists.{IsSortedOf}
 use Rattle.sl_instance.proofs.Lists.{chosen}
 
@@ -89,6 +99,16 @@ ranged_at : (n : ℕ) (rows : List ChoiceRow) → list_all (is_row_of n) rows �
 ranged_at n [] h k d lt = absurd (omega (arith, lt))
 ranged_at n (row ∷ rows) h zero d lt = (and_parts (is_row_of n row) (list_all (is_row_of n) rows) h).0
 ranged_at n (row ∷ rows) h (suc k) d lt = ranged_at n rows (and_parts (is_row_of n row) (list_all (is_row_of n) rows) h).1 k d (omega (arith, lt))
+
+-- the numbers of rows that were read are in their ranges
+pub rows_fine : (choices : ChoiceList) (progs : ℕ) → IsChoiceList choices → All (IsKnown (length choices.codes) progs) choices.rows → All (IsFine progs) choices.rows
+rows_fine choices progs right known k d lt =
+    let row : ChoiceRow = get_or choices.rows k d in
+    let n : ℕ = length choices.codes in
+    let score = (and_parts (nat_lt row.app.0 n && nat_le 1 row.place && nat_le row.place MAX_PLACE) (nat_le row.score MAX_SCORE) (ranged_at n choices.rows right.ranged k d lt)).1 in
+    let few = right.applicants in
+    let app = (known k d lt).0 in
+    record { app = omega (arith, app, few); prog = (known k d lt).1; score = leb-true row.score MAX_SCORE score }
 
 -- numbers that rise strictly
 rest_rises : (n : ℕ) (ns : List ℕ) → IsStrictlyIncreasing (n ∷ ns) → IsStrictlyIncreasing ns
@@ -207,6 +227,10 @@ few_choices a (l ∷ ls) rows h =
     let later = few_choices (a + 1) ls rows (λ k app lt at. h (suc k) app (omega (arith, lt)) (omega (arith, at))) in
     omega (arith, sum_by-cons (λ (es : List Entry). length es) l ls, here, later, split_at a rows)
 
+pass_none : (cause : Cause) (found : Option ℕ) → pass_fault Applications cause found ≡ None → found ≡ None
+pass_none cause None h = refl
+pass_none cause (Some n) h = cc h
+
 -- three tables, and an instance of their pools, their programmes and sorted choices
 module _ (pools : PoolList) (progs : ProgList) (choices : ChoiceList) (market : Market) (pools_right : IsPoolList pools) (progs_right : IsProgList progs) (right : IsChoiceList choices)
     (progs_within : All (λ Q. Q.0 < length pools.codes) progs.pools) (rows_within : All (λ row. (row.app.0 < length choices.codes) × (row.prog.0 < length progs.codes)) choices.rows)
@@ -231,8 +255,8 @@ module _ (pools : PoolList) (progs : ProgList) (choices : ChoiceList) (market : 
   no_quota : quota_fault market ≡ None
   no_quota = rw pools_are pools_right.quotas
 
-  stand_alone : position is_in_tree market.pools ≡ None
-  stand_alone = rw pools_are pools_right.alone
+  no_nesting : nesting_fault market ≡ None
+  no_nesting = sym (nesting_alike market.pools market.progs market.lists) ∙ rw pools_are pools_right.nesting
 
   no_programme : programme_fault market ≡ None
   no_programme =
@@ -254,11 +278,15 @@ module _ (pools : PoolList) (progs : ProgList) (choices : ChoiceList) (market : 
       let repeated = in_no_list has_prog_twice (λ a h. twice choices right a (list_of market a) h) in
       rw (long, out, order, score, repeated) refl
 
-  pub fit : first_refusal market ≡ None
-  fit =
-      let a = no_size in
-      let b = no_quota in
-      let c = stand_alone in
-      let d = no_programme in
-      let e = no_list in
-      rw (a, b, c, d, e) refl
+  no_merit : merits_fault pools progs choices ≡ None → merit_fault market ≡ None
+  no_merit h =
+      let here : Causes.merit_fault market.pools market.progs choices.rows ≡ None = rw (pools_are, progs_are) h in
+      let parts = neither (pass_fault Applications MeritDiffers (first_against (contradicts (market_before market.pools market.progs)) choices.rows)) _ here in
+      let differ = pass_none MeritDiffers _ parts.0 in
+      let tied = pass_none MeritTied _ parts.1 in
+      let bare : nesting_fault (market_before market.pools market.progs) ≡ None = sym (nesting_alike market.pools market.progs []) ∙ rw pools_are pools_right.nesting in
+      no_merit_fault market.pools market.progs market.lists choices.rows (nested (market_before market.pools market.progs) bare) (nested market no_nesting) differ tied
+      (λ a lt. sorted a (omega (arith, lt, each)))
+
+  pub fit : merits_fault pools progs choices ≡ None → IsValid market
+  fit merits = valid_by market no_size no_quota no_nesting no_programme no_list (no_merit merits)

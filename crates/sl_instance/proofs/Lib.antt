@@ -1,3 +1,8 @@
 mod Lists
 pub mod Once
 mod Fit
+pub mod Existence
+pub mod Keys
+pub mod Rows
+pub mod Agreeing
+pub mod Alone

@@ -1,12 +1,15 @@
 ghost use Rattle.std.specs.Prelude.{◌≡◌, ◌<◌, ◌∷◌, ◌++◌, [], ℕ, length, map, position, set, get_or, All, None, OnOk, IfOk, IfErr};
 ghost use Rattle.sl_types.specs.Market.{market_of};
-ghost use Rattle.sl_types.specs.Stage.{first_refusal, is_in_tree};
+ghost use Rattle.sl_types.specs.Valid.{IsValid};
+ghost use Rattle.sl_codes.specs.Faults.{IsFirst};
 ghost use Rattle.sl_codes.specs.declared.faults.ReadError.TheVariants as read_error;
 ghost use Rattle.sl_choices.specs.Rows.{rows_of_app};
-ghost use Rattle.sl_instance.specs.Assembly.{entry_of, IsAssembled};
+ghost use Rattle.sl_instance.specs.Assembly.{chosen_by, entry_of, IsKnown, IsAssembled};
+ghost use Rattle.sl_instance.specs.Causes.{merits_fault};
 ghost use Rattle.sl_instance.specs.Lists.{contents, list_at, IsSortedOf};
 
 use crate::Named;
+use crate::causes::merit_fault;
 use sl_choices::{ChoiceRow, ChoiceTable};
 use sl_codes::ReadError;
 use sl_pools::{PoolTable, ProgTable};
@@ -40,7 +43,9 @@ fn empty_lists(alloc: Global, applicants: usize) -> Result<Vec<Vec<Entry>>, Allo
 fn add_choice(lists: &mut [Vec<Entry>], row: &ChoiceRow) -> Result<(), AllocError>
     requires known { row.now.app.0 < length lists.old }
     ensures each { length lists.new ≡ length lists.old }
-    ensures added { OnOk result (contents lists.new ≡ set (contents lists.old) row.now.app.0 (list_at lists.old row.now.app.0 ++ entry_of row.now ∷ [])) }
+    ensures added { let a = row.now.app.0 in
+        let more = list_at lists.old a ++ entry_of row.now ∷ [] in
+        OnOk result (contents lists.new ≡ set (contents lists.old) a more) }
 {
     lists[row.app.0 as usize].push(entry(row))?;
     Ok(())
@@ -54,7 +59,8 @@ fn choices_by_applicant(
 ) -> Result<Vec<Vec<Entry>>, AllocError>
     requires known { All (λ row. row.app.0 < applicants) rows.now }
     ensures each { IfOk result (λ lists. length lists.items ≡ applicants) }
-    ensures choices { IfOk result (λ lists. (a : ℕ) → a < applicants → list_at lists.items a ≡ map entry_of (rows_of_app a rows.now)) }
+    ensures choices { IfOk result (λ lists. (a : ℕ) → a < applicants
+        → list_at lists.items a ≡ chosen_by rows.now a) }
 {
     let mut lists = empty_lists(alloc, applicants)?;
     'rows: for row in rows {
@@ -87,7 +93,8 @@ fn sorted_choices(
 ) -> Result<Vec<Vec<Entry>>, AllocError>
     requires known { All (λ row. row.app.0 < applicants) rows.now }
     ensures each { IfOk result (λ lists. length lists.items ≡ applicants) }
-    ensures sorted { IfOk result (λ lists. (a : ℕ) → a < applicants → IsSortedOf (map entry_of (rows_of_app a rows.now)) (list_at lists.items a)) }
+    ensures sorted { IfOk result (λ lists. (a : ℕ) → a < applicants
+        → IsSortedOf (chosen_by rows.now a) (list_at lists.items a)) }
 {
     let mut lists = choices_by_applicant(alloc, applicants, rows)?;
     sort_lists(&mut lists);
@@ -101,7 +108,7 @@ fn fit_instance(
     progs: Vec<PoolId>,
     lists: Vec<Vec<Entry>>,
 ) -> Result<Instance, ReadError>
-    requires fit { first_refusal (market_of pools progs lists) ≡ None }
+    requires { IsValid (market_of pools progs lists) }
     ensures made { IfOk result (λ i. i ≡ market_of pools progs lists) }
     ensures memory { IfErr result (λ e. e ≡ read_error.OutOfMemory) }
 {
@@ -112,8 +119,28 @@ fn fit_instance(
     }
 }
 
+// That the merits of these tables are in order in trees.
+fn check_merits(
+    alloc: Global,
+    pools: &PoolTable,
+    progs: &ProgTable,
+    choices: &ChoiceTable,
+) -> Result<(), ReadError>
+    requires { All (IsKnown (length choices.now.codes) (length progs.now.codes)) choices.now.rows }
+    ensures right { OnOk result (merits_fault pools.now progs.now choices.now ≡ None) }
+    ensures refused { IfErr result (IsFirst (merits_fault pools.now progs.now choices.now)) }
+{
+    match merit_fault(alloc, pools.pools(), progs.pools(), choices.rows()) {
+        Ok(None) => Ok(()),
+        Ok(Some(fault)) => Err(ReadError::Bad(fault)),
+        Err(_) => Err(ReadError::OutOfMemory),
+    }
+}
+
 /// The instance of three tables, with its codes: pools and programmes in file order, applicants in first-seen
-/// order, and each applicant's choices in rising order of place. The one error is that memory ran out.
+/// order, and each applicant's choices in rising order of place. After the tables themselves it refuses, at the
+/// record of the application table, first a choice whose applicant has another merit in an earlier record of
+/// the same tree, and then one whose merit another applicant has in an earlier record of the same tree.
 pub fn assemble(
     alloc: Global,
     pools: PoolTable,
@@ -121,11 +148,12 @@ pub fn assemble(
     choices: ChoiceTable,
 ) -> Result<Named, ReadError>
     requires progs { All (λ Q. Q.0 < length pools.codes) progs.pools }
-    requires choices { All (λ row. (row.app.0 < length choices.codes) × (row.prog.0 < length progs.codes)) choices.rows }
+    requires choices { All (IsKnown (length choices.codes) (length progs.codes)) choices.rows }
+    ensures right { OnOk result (merits_fault pools progs choices ≡ None) }
     ensures assembled { IfOk result (IsAssembled pools progs choices) }
-    ensures alone { IfOk result (λ n. position is_in_tree n.market.pools ≡ None) }
-    ensures memory { IfErr result (λ e. e ≡ read_error.OutOfMemory) }
+    ensures refused { IfErr result (IsFirst (merits_fault pools progs choices)) }
 {
+    check_merits(alloc, &pools, &progs, &choices)?;
     let (pool_codes, pools) = pools.into_parts();
     let (prog_codes, progs) = progs.into_parts();
     let (app_codes, rows) = choices.into_parts();

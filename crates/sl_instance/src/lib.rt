@@ -2,6 +2,9 @@
 #![tactic(auto)]
 
 mod assembly;
+mod causes;
+mod conflicts;
+mod keyed;
 mod named;
 mod theorems;
 

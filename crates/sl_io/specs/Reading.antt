@@ -10,7 +10,8 @@ GivesMoreThan count (Some before) (Some now) = count + length now < length befor
 
 -- some reader gave these bytes up to its end
 abbrev pub IsReadToEnd : {F : Type 0} → (F → Option (List ℕ)) → List ℕ → Type 0
-IsReadToEnd {F} remaining bytes = (before : F) × (now : F) × Consumes (remaining before) (remaining now) bytes × IsAtEnd (remaining now)
+IsReadToEnd {F} remaining bytes =
+    (before : F) × (now : F) × Consumes (remaining before) (remaining now) bytes × IsAtEnd (remaining now)
 
 -- some reader gave more than so many bytes
 abbrev pub IsLonger : {F : Type 0} → ℕ → (F → Option (List ℕ)) → Type 0

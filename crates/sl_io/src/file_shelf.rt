@@ -38,30 +38,27 @@ impl<'a, R: Files> FileShelf<'a, R> {
 impl<'a, R: Files> Shelf for FileShelf<'a, R> {
     ghost use Rattle.std.specs.Prelude.{◌≡◌, ◌≤◌, ℕ, List, false, length, drop, IsErrOf, OnOk, OnErr};
     ghost use Rattle.sl_io.specs.Reading.{IsReadToEnd, IsLonger};
-    ghost use Rattle.sl_io.specs.Count.{Rose};
-    ghost use Rattle.sl_io.specs.Shelf.{AppendsFile, AppendsTold, ToldTooLong, Counts, untold};
+    ghost use Rattle.sl_io.specs.Shelf.{AppendsFile, AppendsTold, ToldTooLong, Counts, RoseAt, KeepsFiles, untold};
 
-    ghost tells = { λ s. false };
-
-    ghost contents = { λ s n. untold };
-
-    ghost faults = { λ s n. s };
+    ghost files = { untold };
 
     /// Each error of the file is a fault, one of opening it too.
     fn fetch(&mut self, name: &str, into: &mut Vec<u8>) -> Result<(), FetchError>
         ensures appended { OnOk result (AppendsFile into.old.items into.new.items) }
-        ensures told { OnOk result (AppendsTold false untold into.old.items into.new.items) }
+        ensures told { OnOk result
+            (AppendsTold (untold self.old) name.now into.old.items into.new.items) }
         ensures refused { OnErr result (into.new.items ≡ into.old.items) }
-        ensures fault { IsErrOf result FetchError.Fault → Rose self.old self.new }
-        ensures long { IsErrOf result FetchError.TooLong → ToldTooLong false untold }
-        ensures still_tells { false ≡ false }
-        ensures same { (n : List ℕ) → untold ≡ untold }
-        ensures never_falls { (n : List ℕ) → self.old ≤ self.new }
+        ensures fault { IsErrOf result FetchError.Fault
+            → RoseAt (untold self.old) (untold self.new) name.now }
+        ensures long { IsErrOf result FetchError.TooLong → ToldTooLong (untold self.old) name.now }
+        ensures keeps { KeepsFiles (untold self.old) (untold self.new) }
 
         // The count rises at a fault alone, and each other answer comes from a file that was opened.
         ensures faults { Counts result self.old self.new }
-        ensures read { OnOk result (IsReadToEnd R.File.remaining (drop (length into.old.items) into.new.items)) }
-        ensures longer { IsErrOf result FetchError.TooLong → IsLonger LONGEST_FILE R.File.remaining }
+        ensures read { OnOk result
+            (IsReadToEnd R.File.remaining (drop (length into.old.items) into.new.items)) }
+        ensures longer { IsErrOf result FetchError.TooLong
+            → IsLonger LONGEST_FILE R.File.remaining }
     {
         let Ok(mut file) = fs::open(self.rt, name) else {
             self.faults = raised(self.faults);
@@ -79,9 +76,11 @@ impl<'a, R: Files> Shelf for FileShelf<'a, R> {
 fn append_or_restore<F: Read>(file: &mut F, into: &mut Vec<u8>) -> Result<(), FetchError>
     ensures appended { OnOk result (AppendsFile into.old.items into.new.items) }
     ensures refused { OnErr result (into.new.items ≡ into.old.items) }
-    ensures bytes { OnOk result (Consumes (F.remaining file.old) (F.remaining file.new) (drop (length into.old.items) into.new.items)) }
+    ensures bytes { let appended = drop (length into.old.items) into.new.items in
+        OnOk result (Consumes (F.remaining file.old) (F.remaining file.new) appended) }
     ensures whole { OnOk result (IsAtEnd (F.remaining file.new)) }
-    ensures long { IsErrOf result FetchError.TooLong → GivesMoreThan LONGEST_FILE (F.remaining file.old) (F.remaining file.new) }
+    ensures long { IsErrOf result FetchError.TooLong
+        → GivesMoreThan LONGEST_FILE (F.remaining file.old) (F.remaining file.new) }
 {
     let start = into.len();
     let answer = append_all(file, into);
@@ -95,9 +94,11 @@ fn append_or_restore<F: Read>(file: &mut F, into: &mut Vec<u8>) -> Result<(), Fe
 fn append_all<F: Read>(file: &mut F, into: &mut Vec<u8>) -> Result<(), FetchError>
     ensures front { take (length into.old.items) into.new.items ≡ into.old.items }
     ensures short { OnOk result (length into.new.items ≤ length into.old.items + LONGEST_FILE) }
-    ensures bytes { OnOk result (Consumes (F.remaining file.old) (F.remaining file.new) (drop (length into.old.items) into.new.items)) }
+    ensures bytes { let appended = drop (length into.old.items) into.new.items in
+        OnOk result (Consumes (F.remaining file.old) (F.remaining file.new) appended) }
     ensures whole { OnOk result (IsAtEnd (F.remaining file.new)) }
-    ensures long { IsErrOf result FetchError.TooLong → GivesMoreThan LONGEST_FILE (F.remaining file.old) (F.remaining file.new) }
+    ensures long { IsErrOf result FetchError.TooLong
+        → GivesMoreThan LONGEST_FILE (F.remaining file.old) (F.remaining file.new) }
 {
     let mut buffer = [0u8; 8192];
     let start = into.len();

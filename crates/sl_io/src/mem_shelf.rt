@@ -1,6 +1,6 @@
 ghost use Rattle.std.specs.Prelude.{◌≡◌, map, nat_eq, string_bytes, option_map};
 ghost use Rattle.std.specs.List.{list_any};
-ghost use Rattle.sl_io.specs.MemFiles.{file_of, files_of};
+ghost use Rattle.sl_io.specs.MemFiles.{file_of, files_of, mem_files};
 
 use crate::count::raised;
 use crate::{FetchError, LONGEST_FILE, Shelf};
@@ -16,11 +16,11 @@ pub struct MemShelf {
 }
 
 impl Model for MemShelf {
-    ghost use Rattle.sl_io.specs.MemFiles.{MemFiles, files_of};
+    ghost use Rattle.sl_io.specs.MemFiles.{MemFiles, mem_files};
 
     ghost Value = { MemFiles };
 
-    ghost view = { λ s. record { files = files_of s.files.items; fails = s.fails.items; calls = s.calls; faults = s.faults } };
+    ghost view = { λ s. mem_files s.files.items s.fails.items s.calls s.faults };
 }
 
 impl MemShelf {
@@ -28,7 +28,7 @@ impl MemShelf {
     ///
     /// `fails` has the numbers of the calls of `fetch` that are to fail, counted from 1.
     pub fn new(files: Vec<(String, Vec<u8>)>, fails: Vec<u64>) -> MemShelf
-        ensures { result ≡ record { files = files_of files.items; fails = fails.items; calls = 0; faults = 0 } }
+        ensures { result ≡ mem_files files.items fails.items 0 0 }
     {
         MemShelf {
             files,
@@ -62,26 +62,22 @@ fn is_to_fail(fails: &[u64], call: u64) -> bool
 
 impl Shelf for MemShelf {
     ghost use Rattle.std.specs.Prelude.{◌≡◌, ◌≤◌, ℕ, List, true, IsErrOf, OnOk, OnErr};
-    ghost use Rattle.sl_io.specs.Count.{next_count, Rose};
-    ghost use Rattle.sl_io.specs.MemFiles.{Answers, file_of, fails_next};
-    ghost use Rattle.sl_io.specs.Shelf.{AppendsFile, AppendsTold, ToldTooLong, Counts};
+    ghost use Rattle.sl_io.specs.Count.{next_count};
+    ghost use Rattle.sl_io.specs.MemFiles.{Answers, file_of, fails_next, told};
+    ghost use Rattle.sl_io.specs.Shelf.{AppendsFile, AppendsTold, ToldTooLong, Counts, RoseAt, KeepsFiles};
 
-    ghost tells = { λ s. true };
-
-    ghost contents = { λ s. file_of s.files };
-
-    ghost faults = { λ s n. s.faults };
+    ghost files = { told };
 
     /// Numbers the calls from 1, by a count that stays at 2^64 - 1.
     fn fetch(&mut self, name: &str, into: &mut Vec<u8>) -> Result<(), FetchError>
         ensures appended { OnOk result (AppendsFile into.old.items into.new.items) }
-        ensures told { OnOk result (AppendsTold true (file_of self.old.files name.now) into.old.items into.new.items) }
+        ensures told { OnOk result
+            (AppendsTold (told self.old) name.now into.old.items into.new.items) }
         ensures refused { OnErr result (into.new.items ≡ into.old.items) }
-        ensures fault { IsErrOf result FetchError.Fault → Rose self.old.faults self.new.faults }
-        ensures long { IsErrOf result FetchError.TooLong → ToldTooLong true (file_of self.old.files name.now) }
-        ensures still_tells { true ≡ true }
-        ensures same { (n : List ℕ) → file_of self.new.files n ≡ file_of self.old.files n }
-        ensures never_falls { (n : List ℕ) → self.old.faults ≤ self.new.faults }
+        ensures fault { IsErrOf result FetchError.Fault
+            → RoseAt (told self.old) (told self.new) name.now }
+        ensures long { IsErrOf result FetchError.TooLong → ToldTooLong (told self.old) name.now }
+        ensures keeps { KeepsFiles (told self.old) (told self.new) }
 
         // The exact cause of each refusal, and the whole of what changes.
         ensures exact { Answers (fails_next self.old) (file_of self.old.files name.now) result }

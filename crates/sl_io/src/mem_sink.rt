@@ -46,25 +46,23 @@ impl MemSink {
 }
 
 impl Sink for MemSink {
-    ghost use Rattle.std.specs.Prelude.{◌≡◌, ◌≤◌, ◌+◌, ◌-◌, ◌++◌, ◌↔◌, length, take, Some, IsOk, OnOk, OnErr};
-    ghost use Rattle.std.specs.Io.KnownBytes.{Appends};
-    ghost use Rattle.sl_io.specs.Count.{Rose};
-    ghost use Rattle.sl_io.specs.Sink.{AppendsPart, Counts};
+    ghost use Rattle.std.specs.Prelude.{◌≡◌, ◌≤◌, ◌+◌, ◌-◌, ◌++◌, ◌↔◌, length, take, IsOk, OnOk, OnErr};
+    ghost use Rattle.sl_io.specs.MemBytes.{kept};
+    ghost use Rattle.sl_io.specs.Sink.{Takes, TakesPart, RoseIn, KeepsCount, Counts};
 
-    ghost taken = { λ s. Some s.bytes };
-
-    ghost faults = { λ s. s.faults };
+    ghost output = { kept };
 
     /// Takes the bytes for which there is room, and answers `SinkFault` where that is not the whole piece.
     fn put(&mut self, piece: &[u8]) -> Result<(), SinkFault>
-        ensures bytes { OnOk result (Appends (Some self.old.bytes) (Some self.new.bytes) piece.now) }
-        ensures part { OnErr result (AppendsPart (Some self.old.bytes) (Some self.new.bytes) piece.now) }
-        ensures cause { OnErr result (Rose self.old.faults self.new.faults) }
-        ensures never_falls { self.old.faults ≤ self.new.faults }
+        ensures bytes { OnOk result (Takes (kept self.old) (kept self.new) piece.now) }
+        ensures part { OnErr result (TakesPart (kept self.old) (kept self.new) piece.now) }
+        ensures cause { OnErr result (RoseIn (kept self.old) (kept self.new)) }
+        ensures never_falls { KeepsCount (kept self.old) (kept self.new) }
 
         // The exact answer, and the whole of what changes.
         ensures fits { IsOk result ↔ (length self.old.bytes + length piece.now ≤ self.old.room) }
-        ensures fills { OnErr result (self.new.bytes ≡ self.old.bytes ++ take (self.old.room - length self.old.bytes) piece.now) }
+        ensures fills { let left = self.old.room - length self.old.bytes in
+            OnErr result (self.new.bytes ≡ self.old.bytes ++ take left piece.now) }
         ensures faults { Counts result self.old.faults self.new.faults }
         ensures room { self.new.room ≡ self.old.room }
     {

@@ -26,22 +26,22 @@ impl<W: Write + Drop> OutSink<W> {
 }
 
 impl<W: Write + Drop> Sink for OutSink<W> {
-    ghost use Rattle.std.specs.Prelude.{◌≡◌, ◌≤◌, OnOk, OnErr};
-    ghost use Rattle.std.specs.Io.KnownBytes.{Appends};
-    ghost use Rattle.sl_io.specs.Count.{Rose};
-    ghost use Rattle.sl_io.specs.OutSink.{out_writer, out_faults};
-    ghost use Rattle.sl_io.specs.Sink.{AppendsPart, Counts};
+    ghost use Rattle.std.specs.Prelude.{OnOk, OnErr};
+    ghost use Rattle.sl_io.specs.OutSink.{out_faults, written};
+    ghost use Rattle.sl_io.specs.Sink.{Takes, TakesPart, RoseIn, KeepsCount, Counts};
 
-    ghost taken = { λ s. W.contents (out_writer s) };
-
-    ghost faults = { λ s. out_faults s };
+    ghost output = { written W.contents };
 
     /// Each error of the writer is a fault, one of its flush too, and so is a write that takes nothing.
     fn put(&mut self, piece: &[u8]) -> Result<(), SinkFault>
-        ensures bytes { OnOk result (Appends (W.contents (out_writer self.old)) (W.contents (out_writer self.new)) piece.now) }
-        ensures part { OnErr result (AppendsPart (W.contents (out_writer self.old)) (W.contents (out_writer self.new)) piece.now) }
-        ensures cause { OnErr result (Rose (out_faults self.old) (out_faults self.new)) }
-        ensures never_falls { out_faults self.old ≤ out_faults self.new }
+        ensures bytes { OnOk result
+            (Takes (written W.contents self.old) (written W.contents self.new) piece.now) }
+        ensures part { OnErr result
+            (TakesPart (written W.contents self.old) (written W.contents self.new) piece.now) }
+        ensures cause { OnErr result
+            (RoseIn (written W.contents self.old) (written W.contents self.new)) }
+        ensures never_falls { KeepsCount
+            (written W.contents self.old) (written W.contents self.new) }
 
         // The count rises at a fault alone.
         ensures faults { Counts result (out_faults self.old) (out_faults self.new) }

@@ -1,6 +1,5 @@
-ghost use Rattle.std.specs.Prelude.{◌≡◌, ◌≤◌, ℕ, Bool, List, Option, OnOk, OnErr, IsErrOf};
-ghost use Rattle.sl_io.specs.Count.{Rose};
-ghost use Rattle.sl_io.specs.Shelf.{AppendsFile, AppendsTold, ToldTooLong};
+ghost use Rattle.std.specs.Prelude.{◌≡◌, OnOk, OnErr, IsErrOf};
+ghost use Rattle.sl_io.specs.Shelf.{Files, AppendsFile, AppendsTold, ToldTooLong, RoseAt, KeepsFiles};
 ghost use Rattle.sl_io.specs.declared.shelf.FetchError.TheVariants.{OutOfMemory};
 
 use std::alloc::AllocError;
@@ -29,14 +28,9 @@ impl From<AllocError> for FetchError {
 
 /// Files by name, with a count of faults for each name.
 pub trait Shelf {
-    /// Whether it tells what its files hold.
-    ghost tells: { Self → Bool };
-
-    /// The bytes of each file, by the bytes of its name, where it tells them.
-    ghost contents: { Self → List ℕ → Option (List ℕ) };
-
-    /// How often a file of each name could not be read. It never falls, and stays at 2^64 - 1.
-    ghost faults: { Self → List ℕ → ℕ };
+    /// What it tells of its files, and how often a file of each name could not be read. A count never falls,
+    /// and stays at 2^64 - 1.
+    ghost files: { Self → Files };
 
     /// Appends the bytes of the file of this name to `into`, which stays as it was where that fails.
     ///
@@ -44,15 +38,15 @@ pub trait Shelf {
     /// `LONGEST_FILE` bytes.
     fn fetch(&mut self, name: &str, into: &mut Vec<u8>) -> Result<(), FetchError>
         ensures appended { OnOk result (AppendsFile into.old.items into.new.items) }
-        ensures told { OnOk result (AppendsTold (tells self.old) (contents self.old name.now) into.old.items into.new.items) }
+        ensures told { OnOk result
+            (AppendsTold (files self.old) name.now into.old.items into.new.items) }
         ensures refused { OnErr result (into.new.items ≡ into.old.items) }
 
         // When each refusal comes.
-        ensures fault { IsErrOf result FetchError.Fault → Rose (faults self.old name.now) (faults self.new name.now) }
-        ensures long { IsErrOf result FetchError.TooLong → ToldTooLong (tells self.old) (contents self.old name.now) }
+        ensures fault { IsErrOf result FetchError.Fault
+            → RoseAt (files self.old) (files self.new) name.now }
+        ensures long { IsErrOf result FetchError.TooLong → ToldTooLong (files self.old) name.now }
 
         // What every call leaves.
-        ensures still_tells { tells self.new ≡ tells self.old }
-        ensures same { (n : List ℕ) → contents self.new n ≡ contents self.old n }
-        ensures never_falls { (n : List ℕ) → faults self.old n ≤ faults self.new n };
+        ensures keeps { KeepsFiles (files self.old) (files self.new) };
 }

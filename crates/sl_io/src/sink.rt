@@ -1,7 +1,5 @@
-ghost use Rattle.std.specs.Prelude.{◌≡◌, ◌≤◌, ℕ, List, Option, OnOk, OnErr};
-ghost use Rattle.std.specs.Io.KnownBytes.{Appends};
-ghost use Rattle.sl_io.specs.Count.{Rose};
-ghost use Rattle.sl_io.specs.Sink.{AppendsPart};
+ghost use Rattle.std.specs.Prelude.{◌≡◌, OnOk, OnErr};
+ghost use Rattle.sl_io.specs.Sink.{Output, Takes, TakesPart, RoseIn, KeepsCount};
 ghost use Rattle.sl_io.specs.declared.sink.WriteError.TheVariants.{Fault, OutOfMemory};
 
 use std::alloc::AllocError;
@@ -37,19 +35,17 @@ impl From<AllocError> for WriteError {
 
 /// Takes bytes, and counts its faults.
 pub trait Sink {
-    /// The bytes that it took, where it tells them.
-    ghost taken: { Self → Option (List ℕ) };
-
-    /// How often it could not take a piece. It never falls, and stays at 2^64 - 1.
-    ghost faults: { Self → ℕ };
+    /// The bytes that it took, where it tells them, and how often it could not take a piece. The count never
+    /// falls, and stays at 2^64 - 1.
+    ghost output: { Self → Output };
 
     /// Takes the piece, with no memory of its own.
     ///
     /// `SinkFault` comes only where the count of faults rose. It has then taken the first bytes of the
     /// piece, or none. A sink that tells its bytes tells them after each call.
     fn put(&mut self, piece: &[u8]) -> Result<(), SinkFault>
-        ensures bytes { OnOk result (Appends (taken self.old) (taken self.new) piece.now) }
-        ensures part { OnErr result (AppendsPart (taken self.old) (taken self.new) piece.now) }
-        ensures cause { OnErr result (Rose (faults self.old) (faults self.new)) }
-        ensures never_falls { faults self.old ≤ faults self.new };
+        ensures bytes { OnOk result (Takes (output self.old) (output self.new) piece.now) }
+        ensures part { OnErr result (TakesPart (output self.old) (output self.new) piece.now) }
+        ensures cause { OnErr result (RoseIn (output self.old) (output self.new)) }
+        ensures never_falls { KeepsCount (output self.old) (output self.new) };
 }

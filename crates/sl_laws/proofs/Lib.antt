@@ -5,6 +5,7 @@ pub mod Effective
 pub mod Slices
 -- Trees of pools: what lies inside what, and who is admitted where.
 pub mod Nest
+pub mod Outward
 pub mod Direct
 pub mod Parts
 pub mod Cover
@@ -23,6 +24,7 @@ pub mod Alike
 pub mod Best
 pub mod Feeding
 pub mod Earlier
+pub mod Ends
 pub mod Settling
 pub mod Relaxed
 -- The loops of the code.

@@ -9,7 +9,8 @@ use Rattle.sl_laws.specs.Limits.{Limits, with_limit, demand, capped_demand}
 -- whether a raise is justified by a rule, as a test
 abbrev pub is_justified_by : Rule → Market → Limits → ℕ → ℕ → Bool
 is_justified_by H market t P x = nat_lt (quota_of market P) (demand market t P (x - 1))
-is_justified_by L market t P x = nat_lt (quota_of market P) (demand market t P (x - 1)) && nat_le (quota_of market P) (demand market t P x)
+is_justified_by L market t P x =
+    nat_lt (quota_of market P) (demand market t P (x - 1)) && nat_le (quota_of market P) (demand market t P x)
 is_justified_by Merit market t P x = nat_le (quota_of market P) (capped_demand market (with_limit t P 0) P x)
 
 -- by the rule of its pool

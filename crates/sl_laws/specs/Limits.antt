@@ -1,5 +1,5 @@
 -- What limits do: who is eligible, who is admitted, and the demand for a pool.
-use Rattle.std.specs.Prelude.{ℕ, zero, suc, ◌+◌, Bool, false, cond, ◌&&◌, List, [], ◌∷◌, length, map, min, max, nat_eq, nat_le, find, filter, sum_by, Option, Some, None}
+use Rattle.std.specs.Prelude.{ℕ, zero, suc, slice_index, ◌+◌, Bool, false, cond, ◌&&◌, List, [], ◌∷◌, length, map, min, max, nat_eq, nat_le, find, filter, sum_by, Option, Some, None}
 use Rattle.sl_types.specs.declared.kinds.Entry.{Entry}
 use Rattle.sl_types.specs.declared.kinds.TheConstants.{MAX_DEPTH}
 use Rattle.sl_types.specs.Market.{Market, pool_of, chain_of, lies_in, children_of, quota_of}
@@ -11,6 +11,10 @@ Limits = ℕ → ℕ
 -- t with P's number y
 abbrev pub with_limit : Limits → ℕ → ℕ → Limits
 with_limit t P y Q = cond (nat_eq Q P) y (t Q)
+
+-- the limits that a list of numbers has, with P's number y
+abbrev pub limits_with : List ℕ → ℕ → ℕ → Limits
+limits_with limits P y = with_limit (slice_index limits) P y
 
 -- the greatest of f over a list, 0 over none
 abbrev pub greatest_of : (ℕ → ℕ) → List ℕ → ℕ
@@ -36,7 +40,8 @@ passes p (Some e) = p e
 
 -- whether an applicant's admitted programme lies in P or in a pool inside P
 abbrev pub is_admitted_in : Market → Limits → ℕ → List Entry → Bool
-is_admitted_in market t P choices = passes (λ e. lies_in market (pool_of market e) P) (admitted_choice market t choices)
+is_admitted_in market t P choices =
+    passes (λ e. lies_in market (pool_of market e) P) (admitted_choice market t choices)
 
 -- the applicants with it
 abbrev pub admitted_in : Market → Limits → ℕ → List (List Entry)
@@ -57,7 +62,8 @@ merit_of (Some e) = e.score
 
 -- their merits
 abbrev pub merits_in : Market → Limits → ℕ → List ℕ
-merits_in market t P = map (λ choices. merit_of (admitted_choice market t choices)) (admitted_in market t P)
+merits_in market t P =
+    map (λ choices. merit_of (admitted_choice market t choices)) (admitted_in market t P)
 
 -- the least of x and a list
 abbrev pub least_with : ℕ → List ℕ → ℕ
@@ -79,7 +85,8 @@ bar market t P = cond (is_full market t P) (lowest_of (merits_in market t P)) 0
 
 -- whether an applicant is admitted to a programme directly in P, with a merit of at least x
 abbrev pub is_admitted_directly : Market → Limits → ℕ → ℕ → List Entry → Bool
-is_admitted_directly market t P x choices = passes (λ e. nat_eq (pool_of market e) P && nat_le x e.score) (admitted_choice market t choices)
+is_admitted_directly market t P x choices =
+    passes (λ e. nat_eq (pool_of market e) P && nat_le x e.score) (admitted_choice market t choices)
 
 -- the applicants of merit at least x whose admitted programme lies directly in P
 abbrev pub admitted_directly : Market → Limits → ℕ → ℕ → List (List Entry)
@@ -88,9 +95,11 @@ admitted_directly market t P x = filter (is_admitted_directly market t P x) mark
 -- the capped demand, counted over n levels of pools
 unfoldable pub demand_within : Market → Limits → ℕ → ℕ → ℕ → ℕ
 demand_within market t x zero P = 0
-demand_within market t x (suc n) P = sum_by (λ C. min (quota_of market C) (demand_within market t x n C)) (children_of market P) + length (admitted_directly market t P x)
+demand_within market t x (suc n) P =
+    sum_by (λ C. min (quota_of market C) (demand_within market t x n C)) (children_of market P)
+    + length (admitted_directly market t P x)
 
--- The demand for a merit pool at the limit x, of which each pool directly inside counts for its quota at most.
+-- the demand for a merit pool at the limit x, of which each pool directly inside counts for its quota at most.
 unfoldable pub capped_demand : Market → Limits → ℕ → ℕ → ℕ
 unfolding demand_within
 capped_demand market t P x = demand_within market t x MAX_DEPTH P

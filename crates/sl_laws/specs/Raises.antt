@@ -25,16 +25,27 @@ IsVoid market t r = r.limit ≤ effective_limit market t r.pool.0
 -- a list from t on, without its void raises
 abbrev pub without_void_from : Market → Limits → List Raise → List Raise
 without_void_from market t [] = []
-without_void_from market t (r ∷ rs) = cond (nat_le r.limit (effective_limit market t r.pool.0)) (without_void_from market (after_raise t r) rs) (r ∷ without_void_from market (after_raise t r) rs)
+without_void_from market t (r ∷ rs) =
+    let rest = without_void_from market (after_raise t r) rs in
+    cond (nat_le r.limit (effective_limit market t r.pool.0)) rest (r ∷ rest)
 
 -- each raise of the list, from t on, is of a pool and is F where it stands
 abbrev pub EachRaise : Market → (Limits → Raise → Type 0) → Limits → List Raise → Type 0
 EachRaise market F t [] = Unit {0}
-EachRaise market F t (r ∷ rs) = (r.pool.0 < length market.pools) × F t r × EachRaise market F (after_raise t r) rs
+EachRaise market F t (r ∷ rs) =
+    (r.pool.0 < length market.pools) × F t r × EachRaise market F (after_raise t r) rs
+
+-- a raise that is justified at t
+abbrev pub IsJust : Market → Limits → Raise → Type 0
+IsJust market t r = IsJustified market t r.pool.0 r.limit
+
+-- a raise that may come next in a list that replays: it is above its pool's effective limit, and justified
+abbrev pub MayCome : Market → Limits → Raise → Type 0
+MayCome market t r = (effective_limit market t r.pool.0 < r.limit) × IsJust market t r
 
 -- each raise is void or justified where it stands
 abbrev pub IsSound : Market → List Raise → Type 0
-IsSound market c = EachRaise market (λ t r. IsVoid market t r ⊎ IsJustified market t r.pool.0 r.limit) zeros c
+IsSound market c = EachRaise market (λ t r. IsVoid market t r ⊎ IsJust market t r) zeros c
 
 -- the limits that a list reaches
 abbrev pub limits_after : List Raise → Limits
@@ -46,8 +57,12 @@ without_void market c = without_void_from market zeros c
 
 -- sound, with no void raise
 abbrev pub Replays : Market → List Raise → Type 0
-Replays market c = EachRaise market (λ t r. (effective_limit market t r.pool.0 < r.limit) × IsJustified market t r.pool.0 r.limit) zeros c
+Replays market c = EachRaise market (MayCome market) zeros c
 
 -- it replays to limits at which each pool is settled, and l is their effective limits
 abbrev pub Proves : Market → List Raise → Limits → Type 0
-Proves market c l = Replays market c × ((P : ℕ) → P < length market.pools → IsSettled market (limits_after c) P × (effective_limit market (limits_after c) P ≡ l P))
+Proves market c l =
+    let t = limits_after c in
+    Replays market c
+    × ((P : ℕ) → P < length market.pools
+    → IsSettled market t P × (effective_limit market t P ≡ l P))

@@ -1,7 +1,8 @@
 ghost use Rattle.std.specs.Prelude.{◌≡◌, ◌<◌, ◌≤◌, ◌↔◌, IsTrue, All, length, position, slice_get, slice_index};
-ghost use Rattle.std.specs.List.{list_any, position_or_len};
+ghost use Rattle.std.specs.List.{list_any};
 ghost use Rattle.sl_types.specs.Market.{list_of};
 ghost use Rattle.sl_laws.specs.Limits.{effective_limit, is_eligible, admitted_choice, demand, capped_demand};
+ghost use Rattle.sl_laws.specs.Outcome.{admitted_place};
 ghost use Rattle.sl_laws.specs.Stable.{IsJustified, IsSettled, is_choice_in, leads, feeds};
 
 use crate::replaced;
@@ -43,8 +44,9 @@ fn first_eligible(instance: &Instance, limits: &[u32], choices: &[Entry]) -> Opt
 pub fn plain_admit(instance: &Instance, limits: &[u32], app: AppId) -> usize
     requires sizes { length limits.now ≡ length instance.now.pools }
     requires within { app.0 < length instance.now.lists }
-    ensures index { result ≡ position_or_len (is_eligible instance.now (slice_index limits.now)) (list_of instance.now app.0) }
-    ensures choice { slice_get (list_of instance.now app.0) result ≡ admitted_choice instance.now (slice_index limits.now) (list_of instance.now app.0) }
+    ensures index { result ≡ admitted_place instance.now (slice_index limits.now) app.0 }
+    ensures choice { let choices = list_of instance.now app.0 in
+        slice_get choices result ≡ admitted_choice instance.now (slice_index limits.now) choices }
 {
     let choices = instance.list(app);
     first_eligible(instance, limits, choices).unwrap_or(choices.len())

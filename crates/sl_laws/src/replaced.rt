@@ -2,13 +2,13 @@
 // isn't copied.
 ghost use Rattle.std.specs.Prelude.{◌≡◌, ◌<◌, ◌≤◌, length, slice_index, IfSome};
 ghost use Rattle.sl_types.specs.Market.{lies_in, list_of, pool_of, is_parent, parent_of};
-ghost use Rattle.sl_laws.specs.Limits.{with_limit, effective_limit, is_eligible, is_admitted_in, is_admitted_directly, admitted_directly, admitted_choice, demand, demand_within, capped_demand};
+ghost use Rattle.sl_laws.specs.Limits.{limits_with, effective_limit, is_eligible, is_admitted_in, is_admitted_directly, admitted_directly, admitted_choice, demand, demand_within, capped_demand};
 
 use sl_types::{AppId, Entry, Instance, MAX_DEPTH, PoolId};
 
 fn limit_at(limits: &[u32], pool: PoolId, limit: u32, here: PoolId) -> u32
     requires { here.0 < length limits.now }
-    ensures { result ≡ with_limit (slice_index limits.now) pool.0 limit here.0 }
+    ensures { result ≡ limits_with limits.now pool.0 limit here.0 }
 {
     if here.0 == pool.0 {
         limit
@@ -17,8 +17,8 @@ fn limit_at(limits: &[u32], pool: PoolId, limit: u32, here: PoolId) -> u32
     }
 }
 
-// The effective limit of a pool.
-#[tactic(auto, using(crate::proofs::Steps::outward_steps))]
+/// The effective limit of the pool `at`, in points, once the number of `pool` is replaced by `limit`.
+/// `limits` has a number for each pool, in points.
 pub fn effective_at(
     instance: &Instance,
     limits: &[u32],
@@ -28,46 +28,28 @@ pub fn effective_at(
 ) -> u32
     requires sizes { length limits.now ≡ length instance.now.pools }
     requires within { at.0 < length instance.now.pools }
-    ensures { result ≡ effective_limit instance.now (with_limit (slice_index limits.now) pool.0 limit) at.0 }
+    ensures { result ≡ effective_limit instance.now (limits_with limits.now pool.0 limit) at.0 }
 {
     let mut greatest = 0;
-    let mut next = Some(at);
-    for _ in 0..MAX_DEPTH {
-        let Some(here) = next else {
-            return greatest;
-        };
+    for here in instance.outward(at) {
         let number = limit_at(limits, pool, limit, here);
-        if number > greatest {
-            greatest = number;
-        }
-        next = instance.pool(here).parent;
+        greatest = greatest.max(number);
     }
     greatest
 }
 
 // Whether a pool is another, or lies inside it.
-#[tactic(auto, using(crate::proofs::Steps::inside_steps))]
 pub fn lies_inside(instance: &Instance, inner: PoolId, outer: PoolId) -> bool
     requires { inner.0 < length instance.now.pools }
     ensures { result ≡ lies_in instance.now inner.0 outer.0 }
 {
-    let mut next = Some(inner);
-    for _ in 0..MAX_DEPTH {
-        let Some(here) = next else {
-            return false;
-        };
-        if here.0 == outer.0 {
-            return true;
-        }
-        next = instance.pool(here).parent;
-    }
-    false
+    instance.outward(inner).any(|here| here.0 == outer.0)
 }
 
 fn is_eligible(instance: &Instance, limits: &[u32], pool: PoolId, limit: u32, choice: Entry) -> bool
     requires sizes { length limits.now ≡ length instance.now.pools }
     requires within { choice.prog.0 < length instance.now.progs }
-    ensures { result ≡ is_eligible instance.now (with_limit (slice_index limits.now) pool.0 limit) choice }
+    ensures { result ≡ is_eligible instance.now (limits_with limits.now pool.0 limit) choice }
 {
     let smallest = instance.pool_of(choice.prog);
     effective_at(instance, limits, pool, limit, smallest) <= choice.score
@@ -84,7 +66,8 @@ fn admitted_choice(
 ) -> Option<Entry>
     requires sizes { length limits.now ≡ length instance.now.pools }
     requires within { app.0 < length instance.now.lists }
-    ensures choice { result ≡ admitted_choice instance.now (with_limit (slice_index limits.now) pool.0 limit) (list_of instance.now app.0) }
+    ensures choice { let t = limits_with limits.now pool.0 limit in
+        result ≡ admitted_choice instance.now t (list_of instance.now app.0) }
     ensures inside { IfSome result (λ e. e.prog.0 < length instance.now.progs) }
 {
     instance.list(app).iter().copied().find(|choice| is_eligible(
@@ -103,7 +86,8 @@ fn is_admitted_in(
 ) -> bool
     requires sizes { length limits.now ≡ length instance.now.pools }
     requires within { app.0 < length instance.now.lists }
-    ensures { result ≡ is_admitted_in instance.now (with_limit (slice_index limits.now) pool.0 limit) outer.0 (list_of instance.now app.0) }
+    ensures { let t = limits_with limits.now pool.0 limit in
+        result ≡ is_admitted_in instance.now t outer.0 (list_of instance.now app.0) }
 {
     match admitted_choice(instance, limits, pool, limit, app) {
         Some(choice) => lies_inside(instance, instance.pool_of(choice.prog), outer),
@@ -138,7 +122,8 @@ fn is_admitted_directly(
 ) -> bool
     requires sizes { length limits.now ≡ length instance.now.pools }
     requires within { app.0 < length instance.now.lists }
-    ensures { result ≡ is_admitted_directly instance.now (with_limit (slice_index limits.now) pool.0 limit) at.0 x (list_of instance.now app.0) }
+    ensures { let t = limits_with limits.now pool.0 limit in
+        result ≡ is_admitted_directly instance.now t at.0 x (list_of instance.now app.0) }
 {
     match admitted_choice(instance, limits, pool, limit, app) {
         Some(choice) => instance.pool_of(choice.prog).0 == at.0 && x <= choice.score,
@@ -156,7 +141,8 @@ fn count_directly(
     at: PoolId,
 ) -> usize
     requires sizes { length limits.now ≡ length instance.now.pools }
-    ensures count { result ≡ length (admitted_directly instance.now (with_limit (slice_index limits.now) pool.0 limit) at.0 x) }
+    ensures count { let t = limits_with limits.now pool.0 limit in
+        result ≡ length (admitted_directly instance.now t at.0 x) }
     ensures few { result ≤ length instance.now.lists }
 {
     let mut count = 0;
@@ -191,7 +177,8 @@ fn demand_within(
     at: PoolId,
 ) -> usize
     requires sizes { length limits.now ≡ length instance.now.pools }
-    ensures { result ≡ demand_within instance.now (with_limit (slice_index limits.now) pool.0 limit) x levels at.0 }
+    ensures { let t = limits_with limits.now pool.0 limit in
+        result ≡ demand_within instance.now t x levels at.0 }
 {
     let _applicants = instance.applicants();
     if levels == 0 {
@@ -212,7 +199,7 @@ fn demand_within(
 #[tactic(auto, using(crate::proofs::Few::capped_steps))]
 pub fn capped_demand(instance: &Instance, limits: &[u32], pool: PoolId, limit: u32, x: u32) -> u32
     requires sizes { length limits.now ≡ length instance.now.pools }
-    ensures { result ≡ capped_demand instance.now (with_limit (slice_index limits.now) pool.0 limit) pool.0 x }
+    ensures { result ≡ capped_demand instance.now (limits_with limits.now pool.0 limit) pool.0 x }
 {
     let _applicants = instance.applicants();
     let _pools = instance.pools();

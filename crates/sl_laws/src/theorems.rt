@@ -1,6 +1,6 @@
 ghost use Rattle.sl_types.specs.Market.{Market};
 ghost use Rattle.sl_types.specs.Valid.{IsValid};
-ghost use Rattle.sl_laws.specs.Laws.{DemandIsMonotone, JustifiedBelow, JustifiedHasTop, PassesNoStableLimit, StaysJustified, DropsVoid, DecidingIsJustified, IsLocal, StaysSettled, SoundPassesNone, ProvesTheLeast, BestDecides, SettledAlike, FeedsSays, NoneEarlier, UnderLIsLower};
+ghost use Rattle.sl_laws.specs.Laws.{DemandIsMonotone, JustifiedBelow, JustifiedHasTop, PassesNoStableLimit, StaysJustified, DropsVoid, DecidingIsJustified, IsLocal, StaysSettled, SoundPassesNone, ProvesTheLeast, BestDecides, SettledAlike, FeedsSays, NoneEarlier, LeastIsOne, ReplaysByEnd, ReachesByEnd, UnderLIsLower};
 
 /// The demand for a score pool doesn't rise with its own limit, and doesn't fall where other limits rise.
 pub fn demand_is_monotone()
@@ -77,7 +77,23 @@ pub fn none_earlier()
     ensures { (market : Market) → IsValid market → NoneEarlier market }
 {}
 
+/// The least stable limits are one vector.
+pub fn least_is_one()
+    ensures { (market : Market) → LeastIsOne market }
+{}
+
+/// A list with a raise at its end replays exactly where its front does, and the raise may come there.
+pub fn replays_by_end()
+    ensures { (market : Market) → ReplaysByEnd market }
+{}
+
+/// It reaches the limits of its front after that raise.
+pub fn reaches_by_end()
+    ensures { ReachesByEnd }
+{}
+
 /// Where pools of rule H have rule L instead, the least stable limits are at most what they were.
 pub fn limits_under_l_are_lower()
-    ensures { (market relaxed : Market) → IsValid market → IsValid relaxed → UnderLIsLower market relaxed }
+    ensures { (market relaxed : Market)
+        → IsValid market → IsValid relaxed → UnderLIsLower market relaxed }
 {}

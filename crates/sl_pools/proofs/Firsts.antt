@@ -1,9 +1,7 @@
 -- The first element that passes, from what is known by index.
-use Rattle.std.proofs.Common.{◌≡◌, ◌∙◌, ◌<◌, ℕ, Bool, true, false, List, length, get_or, position, nat_lt, Some, None, refl, arith, inl, inr}
+use Rattle.std.proofs.Common.{◌≡◌, ◌<◌, ℕ, Bool, true, false, List, length, get_or, position, nat_lt, Some, None, refl, arith, inl, inr}
 use Rattle.std.proofs.lemmas.Bool.{cases_Bool, lt-ltb, ltb-true}
 use Rattle.std.proofs.lemmas.List.Sums.{position_or_len_is}
-use Rattle.std.proofs.lemmas.List.FromFn.{get_or-range_with_len, length-range_with_len}
-use Rattle.std.specs.List.{range_with_len}
 
 not_below : (n : ℕ) → nat_lt n n ≡ false
 not_below n = elim (cases_Bool (nat_lt n n)) [
@@ -25,19 +23,3 @@ first_none p xs d never =
   where
     irrefl : (n : ℕ) → n < n → ⊥
     irrefl n h = omega (arith, h)
-
--- the same over the numbers below n
-pub number_found : (p : ℕ → Bool) (n i : ℕ) → i < n → ((k : ℕ) → k < i → p k ≡ false) → p i ≡ true → position p (range_with_len 0 n) ≡ Some i
-number_found p n i lt before here =
-    first_found p (range_with_len 0 n) i 0 (rw (length-range_with_len 0 n) lt)
-    (λ k below. at p n k false (omega (arith, below, lt)) (before k below)) (at p n i true lt here)
-  where
-    at : (p : ℕ → Bool) (n k : ℕ) (b : Bool) → k < n → p k ≡ b → p (get_or (range_with_len 0 n) k 0) ≡ b
-    at p n k b lt h = let e : get_or (range_with_len 0 n) k 0 ≡ k = get_or-range_with_len 0 n k 0 lt ∙ omega arith in rw e h
-
-pub number_none : (p : ℕ → Bool) (n : ℕ) → ((k : ℕ) → k < n → p k ≡ false) → position p (range_with_len 0 n) ≡ None
-number_none p n never =
-    first_none p (range_with_len 0 n) 0 (λ k below. at p n k (rw (length-range_with_len 0 n) at below) never)
-  where
-    at : (p : ℕ → Bool) (n k : ℕ) → k < n → ((j : ℕ) → j < n → p j ≡ false) → p (get_or (range_with_len 0 n) k 0) ≡ false
-    at p n k lt never = let e : get_or (range_with_len 0 n) k 0 ≡ k = get_or-range_with_len 0 n k 0 lt ∙ omega arith in rw e (never k lt)

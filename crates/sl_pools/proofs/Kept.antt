@@ -11,9 +11,9 @@ use Rattle.sl_types.specs.declared.kinds.PoolId.{PoolId}
 use Rattle.sl_types.specs.declared.kinds.Rule.{Rule}
 use Rattle.sl_types.specs.declared.kinds.Rule.TheVariants.{H, L, Merit}
 use Rattle.sl_types.specs.declared.kinds.TheConstants.{MAX_POOLS, MAX_PROGRAMMES, MAX_QUOTA}
-use Rattle.sl_types.specs.Market.{Market, no_pool, pool_numbers, rule_of}
+use Rattle.sl_types.specs.Market.{Market, market_of_pools, no_pool, pool_numbers, rule_of}
 use Rattle.sl_types.specs.Rules.{has_quota_out, has_parent_out, has_parent_where, is_no_pool, is_in_ring, is_too_deep, is_badly_nested, is_merit}
-use Rattle.sl_types.specs.Stage.{is_in_tree}
+use Rattle.sl_types.specs.Stage.{is_in_tree, StandAlone}
 use Rattle.sl_types.specs.Valid as Valid
 use Rattle.sl_types.proofs.Lists.{none_fails, none_first}
 use Rattle.sl_codes.specs.declared.faults.Cause.TheVariants.{BadQuota, UnknownParent, ParentCycle, TooDeep, KindDiffers, RepeatedPool, RepeatedProgramme, UnknownPool}
@@ -22,10 +22,10 @@ use Rattle.sl_codes.specs.Faults.{new_code_cause, name_cause, first_fault, pass_
 use Rattle.sl_codes.specs.Fields.{is_code, number_of_field, number_within}
 use Rattle.sl_codes.specs.Records.{Record, field_of, codes_of}
 use Rattle.sl_codes.proofs.FirstFault.{neither, unbroken, new_code_right, right_file, all_mapped}
-use Rattle.sl_pools.specs.Pools.{pool_form, quota_cause, pool_unlinked, pool_of, pools_of, pools_alone, parents_fault, first_pool_fault, nesting_fault, AreLinked, IsPoolList, parents_of, is_unknown_parent}
+use Rattle.sl_pools.specs.Pools.{pool_form, quota_cause, pool_unlinked, pool_of, pools_of, parents_fault, first_pool_fault, nesting_fault, IsPoolList, parents_of, is_unknown_parent}
 use Rattle.sl_pools.specs.Programmes.{programme_form, programmes_of, pool_named, IsProgList}
 use Rattle.sl_pools.proofs.Firsts.{first_none}
-use Rattle.sl_pools.proofs.Links.{rows_linked}
+use Rattle.sl_pools.proofs.Links.{AreLinked, rows_linked}
 use Rattle.sl_pools.proofs.Rows.{length_map}
 
 -- a table of programmes
@@ -85,10 +85,10 @@ pass_none cause None h = refl
 pass_none cause (Some n) h = cc h
 
 -- linked pools have no parent outside
-linked_inside : (pools : List Pool) → AreLinked pools → position (has_parent_out (pools_alone pools)) pools ≡ None
-linked_inside pools linked = first_none (has_parent_out (pools_alone pools)) pools no_pool (λ P lt. inside pools (get_or pools P no_pool).parent (λ Q e. linked P Q e))
+linked_inside : (pools : List Pool) → AreLinked pools → position (has_parent_out (market_of_pools pools)) pools ≡ None
+linked_inside pools linked = first_none (has_parent_out (market_of_pools pools)) pools no_pool (λ P lt. inside pools (get_or pools P no_pool).parent (λ Q e. linked P Q e))
   where
-    inside : (pools : List Pool) (o : Option PoolId) → ((Q : PoolId) → o ≡ Some Q → Q.0 < length pools) → has_parent_where (is_no_pool (pools_alone pools)) o ≡ false
+    inside : (pools : List Pool) (o : Option PoolId) → ((Q : PoolId) → o ≡ Some Q → Q.0 < length pools) → has_parent_where (is_no_pool (market_of_pools pools)) o ≡ false
     inside pools None within = refl
     inside pools (Some Q) within = elim (cases_Bool (nat_le (length pools) Q.0)) [
       | inl e ↦ let le = leb-true (length pools) Q.0 e in let lt = within Q refl in absurd (omega (arith, le, lt))
@@ -97,13 +97,13 @@ linked_inside pools linked = first_none (has_parent_out (pools_alone pools)) poo
 
 -- pools that are linked and pass
 nested_right : (pools : List Pool) → AreLinked pools → nesting_fault pools ≡ None
-    → (Valid.nesting_fault (pools_alone pools) ≡ None) × (position (is_badly_nested (pools_alone pools)) pools ≡ None)
+    → (Valid.nesting_fault (market_of_pools pools) ≡ None) × (position (is_badly_nested (market_of_pools pools)) pools ≡ None)
 nested_right pools linked h =
-    let first = neither (pass_fault Pools ParentCycle (position (is_in_ring (pools_alone pools)) (pool_numbers (pools_alone pools)))) _ h in
-    let second = neither (pass_fault Pools TooDeep (position (is_too_deep (pools_alone pools)) (pool_numbers (pools_alone pools)))) _ first.1 in
+    let first = neither (pass_fault Pools ParentCycle (position (is_in_ring (market_of_pools pools)) (pool_numbers (market_of_pools pools)))) _ h in
+    let second = neither (pass_fault Pools TooDeep (position (is_too_deep (market_of_pools pools)) (pool_numbers (market_of_pools pools)))) _ first.1 in
     let ring = pass_none ParentCycle _ first.0 in
     let deep = pass_none TooDeep _ second.0 in
-    let nested = pass_none KindDiffers (position (is_badly_nested (pools_alone pools)) pools) second.1 in
+    let nested = pass_none KindDiffers (position (is_badly_nested (market_of_pools pools)) pools) second.1 in
     let out = linked_inside pools linked in
     (rw (out, ring, deep, nested) refl, nested)
 
@@ -114,7 +114,7 @@ not_merit Merit h = absurd (h refl)
 
 -- pools of one rule that isn't Merit have no parent where none is badly nested
 stand_alone : (rule : Rule) (codes : List (List ℕ)) (rows : List Record) (market : Market) → rule ≢ Merit
-    → position (is_badly_nested market) (map (pool_of rule codes) rows) ≡ None → position is_in_tree (map (pool_of rule codes) rows) ≡ None
+    → position (is_badly_nested market) (map (pool_of rule codes) rows) ≡ None → StandAlone (map (pool_of rule codes) rows)
 stand_alone rule codes rows market apart nested =
     first_none is_in_tree (map (pool_of rule codes) rows) no_pool
     (λ k lt. alone market (get_or (map (pool_of rule codes) rows) k no_pool) (ruled rule codes rows k (not_merit rule apart)) (none_fails (is_badly_nested market) (map (pool_of rule codes) rows) nested k no_pool lt))
@@ -132,9 +132,9 @@ stand_alone rule codes rows market apart nested =
     alone market pool h nested = in_none market (is_merit pool.rule) pool.parent h nested
 
 -- a table of pools
-pub pool_list : (rule : Rule) (records : List Record) → rule ≢ Merit → first_pool_fault rule records ≡ None → length (drop 1 records) ≤ MAX_POOLS
+pub pool_list : (rule : Rule) (records : List Record) → first_pool_fault rule records ≡ None → length (drop 1 records) ≤ MAX_POOLS
     → IsPoolList (pools_of rule (drop 1 records))
-pool_list rule records apart right few =
+pool_list rule records right few =
     let rows = drop 1 records in
     let both = neither (first_fault pool_form records) (parents_fault rule rows) right in
     let passes = neither (pass_fault Pools UnknownParent (position (is_unknown_parent (codes_of rows)) (parents_of rows))) (nesting_fault (pools_of rule rows).pools) both.1 in
@@ -151,8 +151,16 @@ pool_list rule records apart right few =
       coded = all_mapped (λ row. field_of row 0) is_code rows coded;
       quotas = rw none refl;
       nesting = nested.0;
-      alone = stand_alone rule (codes_of rows) rows (pools_alone (pools_of rule rows).pools) apart nested.1;
     }
+
+-- pools of kind `score` alone
+pub pools_stand_alone : (rule : Rule) (records : List Record) → rule ≢ Merit → first_pool_fault rule records ≡ None → StandAlone (pools_of rule (drop 1 records)).pools
+pools_stand_alone rule records apart right =
+    let rows = drop 1 records in
+    let both = neither (first_fault pool_form records) (parents_fault rule rows) right in
+    let passes = neither (pass_fault Pools UnknownParent (position (is_unknown_parent (codes_of rows)) (parents_of rows))) (nesting_fault (pools_of rule rows).pools) both.1 in
+    let nested = nested_right (pools_of rule rows).pools (rows_linked rule rows) passes.1 in
+    stand_alone rule (codes_of rows) rows (market_of_pools (pools_of rule rows).pools) apart nested.1
 
 any_first : {A : Type 0} (p : A → Bool) (xs : List A) → list_any p xs ≡ true → position_or_len p xs < length xs
 any_first p [] h = absurd (true≢false (sym h))

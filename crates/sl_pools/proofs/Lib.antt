@@ -2,4 +2,3 @@ mod Firsts
 mod Kept
 mod Links
 mod Rows
-mod Ways

@@ -1,22 +1,22 @@
 -- Pools that are given the parents that their fields name.
-use Rattle.std.proofs.Common.{◌≡◌, ◌∙◌, ◌<◌, ◌≤◌, ◌+◌, ◌++◌, ℕ, zero, suc, List, [], ◌∷◌, map, take, drop, set, length, get_or, position, Option, Some, None, option_map, refl, sym, ap, arith, inl, inr, append_assoc, append-nil, add-one, drop-cons}
+use Rattle.std.proofs.Common.{◌≡◌, ◌∙◌, ◌<◌, ◌≤◌, ◌+◌, ◌++◌, ℕ, zero, suc, List, [], ◌∷◌, map, take, drop, set, length, get_or, Option, Some, None, option_map, refl, sym, ap, arith, inl, inr, append_assoc, append-nil, add-one, drop-cons}
 use Rattle.std.proofs.lemmas.Bool.{cases_Bool}
 use Rattle.std.proofs.lemmas.List.{take_more_set, drop-set-lt, take_all, drop_all}
 use Rattle.std.proofs.lemmas.List.Quantifiers.{position-Some}
 use Rattle.sl_types.specs.declared.kinds.Pool.{Pool}
 use Rattle.sl_types.specs.declared.kinds.PoolId.{PoolId}
 use Rattle.sl_types.specs.declared.kinds.Rule.{Rule}
-use Rattle.sl_types.specs.Market.{no_pool}
-use Rattle.std.specs.Option.{option_or}
+use Rattle.sl_types.specs.Market.{no_pool, parent_of, market_of_pools}
 use Rattle.std.specs.Str.{bytes_eq}
-use Rattle.sl_codes.specs.declared.faults.Cause.TheVariants.{UnknownParent}
-use Rattle.sl_codes.specs.declared.faults.Table.TheVariants.{Pools}
-use Rattle.sl_codes.specs.declared.faults.TableFault.{TableFault}
 use Rattle.sl_codes.specs.Codes.{number_of}
-use Rattle.sl_codes.specs.Faults.{first_fault, pass_fault}
+use Rattle.sl_codes.specs.Faults.{first_fault}
 use Rattle.sl_codes.specs.Records.{Record, field_of, codes_of}
-use Rattle.sl_pools.specs.Pools.{PoolList, linked, parent_named, is_empty_field, is_unknown_parent, parents_of, pool_unlinked, pool_of, pools_of, pool_form, AreLinked, nesting_fault, first_pool_fault}
+use Rattle.sl_pools.specs.Pools.{PoolList, linked, parent_named, is_empty_field, parents_of, pool_unlinked, pool_of, pools_of, pool_form, first_pool_fault, link_fault}
 use Rattle.sl_pools.proofs.Rows.{length_map}
+
+-- each parent is a pool of the list
+abbrev pub AreLinked : List Pool → Type 0
+AreLinked pools = (P : ℕ) (Q : PoolId) → parent_of (market_of_pools pools) P ≡ Some Q → Q.0 < length pools
 
 -- a pool with this parent
 abbrev pub with_parent : Pool → Option PoolId → Pool
@@ -82,13 +82,11 @@ pub are_linked : (codes fields : List (List ℕ)) (pools : List Pool) → length
 are_linked codes fields pools coded each P Q h = rw (length-linked codes fields pools, ← coded) (parents_within codes fields pools P Q each h)
 
 -- the first fault of a file whose records have none
-pub whole_file : (rule : Rule) (records : List Record) (codes fields : List (List ℕ)) (pools : List Pool) (found : Option TableFault) → first_fault pool_form records ≡ None
+pub whole_file : (rule : Rule) (records : List Record) (codes fields : List (List ℕ)) (pools : List Pool) → first_fault pool_form records ≡ None
     → codes ≡ codes_of (drop 1 records) → fields ≡ parents_of (drop 1 records) → pools ≡ map (pool_unlinked rule) (drop 1 records)
-    → found ≡ option_or (pass_fault Pools UnknownParent (position (is_unknown_parent codes) fields)) (nesting_fault (linked codes fields pools))
-    → first_pool_fault rule records ≡ found
-whole_file rule records codes fields pools found right coded named alone fault =
-    let all = rw (coded, named, alone, linked_rows rule (codes_of (drop 1 records)) (drop 1 records)) at fault in
-    rw right (sym all)
+    → first_pool_fault rule records ≡ link_fault codes fields pools
+whole_file rule records codes fields pools right coded named alone =
+    rw (right, coded, named, alone, linked_rows rule (codes_of (drop 1 records)) (drop 1 records)) refl
 
 -- linked pools are those of the records
 pub linked_of : (rule : Rule) (rows : List Record) (codes fields : List (List ℕ)) (pools all : List Pool) → codes ≡ codes_of rows → fields ≡ parents_of rows → pools ≡ map (pool_unlinked rule) rows

@@ -1,5 +1,5 @@
 -- The pool table: its form, the passes over the whole file, and what it holds.
-use Rattle.std.specs.Prelude.{◌≡◌, ◌≤◌, ◌<◌, length, ℕ, Bool, true, ◌&&◌, not, List, [], ◌∷◌, map, codes, unwrap_or, position, is_none, cond, drop, Option, Some, None, option_map}
+use Rattle.std.specs.Prelude.{◌≡◌, ◌≤◌, length, ℕ, Bool, true, ◌&&◌, not, List, [], ◌∷◌, map, codes, unwrap_or, position, is_none, cond, drop, Option, None, option_map, MatchOption, false}
 use Rattle.std.specs.Option.{option_or}
 use Rattle.std.specs.List.{list_all}
 use Rattle.std.specs.Str.{bytes_eq}
@@ -7,10 +7,9 @@ use Rattle.sl_types.specs.declared.kinds.Pool.{Pool}
 use Rattle.sl_types.specs.declared.kinds.PoolId.{PoolId}
 use Rattle.sl_types.specs.declared.kinds.Rule.{Rule}
 use Rattle.sl_types.specs.declared.kinds.TheConstants.{MAX_POOLS, MAX_QUOTA}
-use Rattle.sl_types.specs.Market.{Market, pool_numbers, parent_of}
+use Rattle.sl_types.specs.Market.{market_of_pools}
 use Rattle.sl_types.specs.Valid as Valid
-use Rattle.sl_types.specs.Rules.{is_in_ring, is_too_deep, is_badly_nested}
-use Rattle.sl_types.specs.Stage.{is_in_tree}
+use Rattle.sl_types.specs.Valid.{first_in_ring, first_too_deep, first_badly_nested}
 use Rattle.sl_codes.specs.declared.faults.Cause.{Cause}
 use Rattle.sl_codes.specs.declared.faults.Cause.TheVariants.{RepeatedPool, BadNumber, BadQuota, BadKind, UnknownParent, ParentCycle, TooDeep, KindDiffers}
 use Rattle.sl_codes.specs.declared.faults.Table.TheVariants.{Pools}
@@ -66,9 +65,13 @@ parent_named pools field = cond (is_empty_field field) None (option_map (λ n. r
 abbrev pub pool_unlinked : Rule → Record → Pool
 pool_unlinked rule row = record { quota = unwrap_or (number_of_field (field_of row 1)) 0; parent = None; rule = rule }
 
+-- a pool with this parent
+abbrev pub linked_to : Pool → Option PoolId → Pool
+linked_to pool parent = record { quota = pool.quota; parent = parent; rule = pool.rule }
+
 -- the pool of a record, among pools of these codes
 abbrev pub pool_of : Rule → List (List ℕ) → Record → Pool
-pool_of rule pools row = record { quota = (pool_unlinked rule row).quota; parent = parent_named pools (field_of row 2); rule = rule }
+pool_of rule pools row = linked_to (pool_unlinked rule row) (parent_named pools (field_of row 2))
 
 -- what the records after the header hold
 abbrev pub pools_of : Rule → List Record → PoolList
@@ -82,26 +85,31 @@ parents_of rows = map (λ row. field_of row 2) rows
 unfoldable pub linked : List (List ℕ) → List (List ℕ) → List Pool → List Pool
 linked codes [] pools = pools
 linked codes (field ∷ fields) [] = []
-linked codes (field ∷ fields) (pool ∷ pools) = record { quota = pool.quota; parent = parent_named codes field; rule = pool.rule } ∷ linked codes fields pools
+linked codes (field ∷ fields) (pool ∷ pools) =
+    linked_to pool (parent_named codes field) ∷ linked codes fields pools
 
 -- a field names a parent that is no pool of these codes
 abbrev pub is_unknown_parent : List (List ℕ) → List ℕ → Bool
 is_unknown_parent pools field = not (is_empty_field field) && not (has_code pools field)
 
--- these pools, without programmes and applicants
-abbrev pub pools_alone : List Pool → Market
-pools_alone pools = record { pools = pools; progs = []; lists = [] }
-
--- each parent is a pool of the list
-abbrev pub AreLinked : List Pool → Type 0
-AreLinked pools = (P : ℕ) (Q : PoolId) → parent_of (pools_alone pools) P ≡ Some Q → Q.0 < length pools
+-- the parent that a field names, or none where it names a pool that isn't there
+abbrev pub FindsParent : List (List ℕ) → List ℕ → Option (Option PoolId) → Type 0
+FindsParent codes field found =
+    MatchOption found (is_unknown_parent codes field ≡ true)
+    (λ parent. (is_unknown_parent codes field ≡ false) × (parent ≡ parent_named codes field))
 
 -- the passes over pools whose parents are known: none is its own ancestor, none is too deep, none is badly nested
 abbrev pub nesting_fault : List Pool → Option TableFault
 nesting_fault pools =
-    option_or (pass_fault Pools ParentCycle (position (is_in_ring (pools_alone pools)) (pool_numbers (pools_alone pools))))
-    (option_or (pass_fault Pools TooDeep (position (is_too_deep (pools_alone pools)) (pool_numbers (pools_alone pools))))
-    (pass_fault Pools KindDiffers (position (is_badly_nested (pools_alone pools)) pools)))
+    option_or (pass_fault Pools ParentCycle (first_in_ring (market_of_pools pools)))
+    (option_or (pass_fault Pools TooDeep (first_too_deep (market_of_pools pools)))
+    (pass_fault Pools KindDiffers (first_badly_nested (market_of_pools pools))))
+
+-- the passes over pools of these codes, whose parents these fields name: each parent is known, and then the others
+abbrev pub link_fault : List (List ℕ) → List (List ℕ) → List Pool → Option TableFault
+link_fault codes fields pools =
+    option_or (pass_fault Pools UnknownParent (position (is_unknown_parent codes) fields))
+    (nesting_fault (linked codes fields pools))
 
 -- the passes over the whole file
 abbrev pub parents_fault : Rule → List Record → Option TableFault
@@ -113,12 +121,11 @@ parents_fault rule rows =
 abbrev pub first_pool_fault : Rule → List Record → Option TableFault
 first_pool_fault rule records = option_or (first_fault pool_form records) (parents_fault rule (drop 1 records))
 
--- what a pool table that was read keeps: as many codes as pools, each of them a code, and pools that break no rule of an
--- instance and stand alone
+-- what a pool table that was read keeps: as many codes as pools, each of them a code, and pools that break no rule of
+-- an instance
 pub record IsPoolList (list : PoolList) : Type 0 where
   pub each : length list.codes ≡ length list.pools
   pub few : length list.pools ≤ MAX_POOLS
   pub coded : list_all is_code list.codes ≡ true
-  pub quotas : Valid.quota_fault (pools_alone list.pools) ≡ None
-  pub nesting : Valid.nesting_fault (pools_alone list.pools) ≡ None
-  pub alone : position is_in_tree list.pools ≡ None
+  pub quotas : Valid.quota_fault (market_of_pools list.pools) ≡ None
+  pub nesting : Valid.nesting_fault (market_of_pools list.pools) ≡ None

@@ -2,18 +2,19 @@ ghost use Rattle.std.specs.Prelude.{◌≡◌, ◌≢◌, ◌≤◌, ◌<◌, �
 ghost use Rattle.std.specs.Option.{option_or};
 ghost use Rattle.csv.specs.Records.{fields_of, partial_of};
 ghost use Rattle.sl_types.specs.declared.kinds.Rule.TheVariants.{Merit};
-ghost use Rattle.sl_codes.specs.Faults.{record_cause, first_fault, pass_fault, IsWrong, IsFirst};
+ghost use Rattle.sl_types.specs.Stage.{StandAlone};
+ghost use Rattle.sl_codes.specs.Faults.{FailsBy, record_cause, first_fault, pass_fault, IsWrong, IsFirst};
 ghost use Rattle.sl_codes.specs.declared.faults.Cause.TheVariants.{UnknownParent};
 ghost use Rattle.sl_codes.specs.declared.faults.Table.TheVariants.{Pools};
 ghost use Rattle.sl_codes.specs.Fields.{number_of_field};
 ghost use Rattle.sl_codes.specs.Records.{Record, records_of, rows_of, field_of, codes_of};
-ghost use Rattle.sl_pools.specs.Pools.{parent_named, quota_cause, parent_cause, kind_cause, pool_form, pool_unlinked, parents_of, linked, is_unknown_parent, nesting_fault, pools_of, first_pool_fault, IsPoolList};
+ghost use Rattle.sl_pools.specs.Pools.{FindsParent, parent_named, quota_cause, parent_cause, kind_cause, pool_form, pool_unlinked, parents_of, linked, is_unknown_parent, link_fault, pools_of, first_pool_fault, IsPoolList};
+ghost use Rattle.sl_pools.specs.Taking.{IsRightAfter, IsWrongAfter};
 
 use crate::nesting::{nesting_fault, pass_fault};
 use csv::ByteRecord;
 use sl_codes::{
-    Cause, Codes, ReadError, Records, RowError, Table, TableFault, add_code, code, field, number,
-    read_header,
+    Cause, Codes, ReadError, Records, RowError, Table, add_code, code, field, number, read_header,
 };
 use sl_types::{MAX_POOLS, MAX_QUOTA, Pool, PoolId, Rule};
 use std::alloc::Global;
@@ -29,7 +30,7 @@ pub struct PoolTable {
 }
 
 impl Model for PoolTable {
-    ghost use Rattle.sl_pools.specs.Pools.{PoolList, IsPoolList};
+    ghost use Rattle.sl_pools.specs.Pools.{FindsParent, PoolList, IsPoolList};
 
     ghost Value = { PoolList };
 
@@ -76,7 +77,7 @@ struct Draft {
 // The quota of a field.
 fn quota(field: &[u8]) -> Result<u32, Cause>
     ensures quota { IfOk result (λ n. number_of_field field.now ≡ Some n) }
-    ensures cause { MatchResult result (λ _. quota_cause field.now ≡ None) (λ cause. quota_cause field.now ≡ Some cause) }
+    ensures cause { FailsBy (quota_cause field.now) result }
 {
     let Some(quota) = number(field) else {
         return Err(Cause::BadNumber);
@@ -89,7 +90,7 @@ fn quota(field: &[u8]) -> Result<u32, Cause>
 
 // A parent is empty or a code. Whether there is such a pool is a matter of the whole file.
 fn check_parent(field: &[u8]) -> Result<(), Cause>
-    ensures { MatchResult result (λ _. parent_cause field.now ≡ None) (λ cause. parent_cause field.now ≡ Some cause) }
+    ensures { FailsBy (parent_cause field.now) result }
 {
     if !field.is_empty() {
         code(field)?;
@@ -98,7 +99,7 @@ fn check_parent(field: &[u8]) -> Result<(), Cause>
 }
 
 fn check_kind(field: &[u8]) -> Result<(), Cause>
-    ensures { MatchResult result (λ _. kind_cause field.now ≡ None) (λ cause. kind_cause field.now ≡ Some cause) }
+    ensures { FailsBy (kind_cause field.now) result }
 {
     if field != "score".as_bytes() {
         return Err(Cause::BadKind);
@@ -123,13 +124,15 @@ impl Draft {
     // Takes the record of a pool, where pools of kind `score` have this rule.
     fn take(&mut self, rule: Rule, row: &ByteRecord) -> Result<(), RowError>
         requires { partial_of self.old.parents ≡ [] }
-        ensures right { OnOk result ((before : List Record) → self.old.codes ≡ codes_of before → record_cause pool_form before (fields_of row.now) ≡ None) }
+        ensures right { OnOk result (IsRightAfter pool_form self.old.codes (fields_of row.now)) }
         ensures room { OnOk result (length self.old.codes < MAX_POOLS) }
         ensures codes { OnOk result (self.new.codes ≡ self.old.codes ++ field_of (fields_of row.now) 0 ∷ []) }
-        ensures pools { OnOk result (self.new.pools.items ≡ self.old.pools.items ++ pool_unlinked rule (fields_of row.now) ∷ []) }
-        ensures parents { OnOk result (fields_of self.new.parents ≡ fields_of self.old.parents ++ field_of (fields_of row.now) 2 ∷ []) }
+        ensures pools { let pool = pool_unlinked rule (fields_of row.now) in
+            OnOk result (self.new.pools.items ≡ self.old.pools.items ++ pool ∷ []) }
+        ensures parents { let field = field_of (fields_of row.now) 2 in
+            OnOk result (fields_of self.new.parents ≡ fields_of self.old.parents ++ field ∷ []) }
         ensures whole { OnOk result (partial_of self.new.parents ≡ []) }
-        ensures wrong { IfErr result (λ e. (before : List Record) → self.old.codes ≡ codes_of before → IsWrong (record_cause pool_form before (fields_of row.now)) e) }
+        ensures wrong { IfErr result (IsWrongAfter pool_form self.old.codes (fields_of row.now)) }
     {
         if row.len() != HEADER.len() {
             return Err(RowError::Bad(Cause::FieldCount));
@@ -177,7 +180,7 @@ fn read_draft(alloc: Global, bytes: &[u8], rule: Rule) -> Result<Draft, ReadErro
 
 // The parent that a field names, where there is such a pool or the field is empty.
 fn parent_named(codes: &Codes, field: &[u8]) -> Option<Option<PoolId>>
-    ensures { MatchOption result (is_unknown_parent codes.now field.now ≡ true) (λ parent. (is_unknown_parent codes.now field.now ≡ false) × (parent ≡ parent_named codes.now field.now)) }
+    ensures { FindsParent codes.now field.now result }
 {
     if field.is_empty() {
         return Some(None);
@@ -203,17 +206,26 @@ fn link(codes: &Codes, parents: &ByteRecord, pools: &mut [Pool]) -> Result<(), u
     Ok(())
 }
 
-// The first fault of the passes over the whole file, of which the first gives each pool its parent.
-fn whole_file_fault(codes: &Codes, parents: &ByteRecord, pools: &mut [Pool]) -> Option<TableFault>
+// The passes over the whole file, of which the first gives each pool its parent.
+fn pass_over(
+    alloc: Global,
+    codes: &Codes,
+    parents: &ByteRecord,
+    pools: &mut [Pool],
+) -> Result<(), ReadError>
     requires few { length pools.old ≤ MAX_POOLS }
-    requires coded { length codes.now ≡ length pools.old }
     requires each { length (fields_of parents.now) ≡ length pools.old }
-    ensures fault { result ≡ option_or (pass_fault Pools UnknownParent (position (is_unknown_parent codes.now) (fields_of parents.now))) (nesting_fault (linked codes.now (fields_of parents.now) pools.old)) }
-    ensures linked { IfNone result (pools.new ≡ linked codes.now (fields_of parents.now) pools.old) }
+    ensures right { OnOk result (link_fault codes.now (fields_of parents.now) pools.old ≡ None) }
+    ensures linked { OnOk result (pools.new ≡ linked codes.now (fields_of parents.now) pools.old) }
+    ensures refused { IfErr result (IsFirst (link_fault codes.now (fields_of parents.now) pools.old)) }
 {
-    match link(codes, parents, pools) {
-        Ok(()) => nesting_fault(pools),
-        Err(pool) => Some(pass_fault(Cause::UnknownParent, pool)),
+    if let Err(pool) = link(codes, parents, pools) {
+        return Err(ReadError::Bad(pass_fault(Cause::UnknownParent, pool)));
+    }
+    match nesting_fault(alloc, pools) {
+        Ok(None) => Ok(()),
+        Ok(Some(fault)) => Err(ReadError::Bad(fault)),
+        Err(_) => Err(ReadError::OutOfMemory),
     }
 }
 
@@ -223,6 +235,7 @@ pub fn read_pools(alloc: Global, bytes: &[u8], rule: Rule) -> Result<PoolTable, 
     requires rule { rule ≢ Merit }
     ensures right { OnOk result (first_pool_fault rule (records_of bytes.now) ≡ None) }
     ensures table { IfOk result (λ table. table ≡ pools_of rule (rows_of bytes.now)) }
+    ensures alone { IfOk result (λ table. StandAlone table.pools) }
     ensures refused { IfErr result (IsFirst (first_pool_fault rule (records_of bytes.now))) }
 {
     let Draft {
@@ -230,8 +243,6 @@ pub fn read_pools(alloc: Global, bytes: &[u8], rule: Rule) -> Result<PoolTable, 
         mut pools,
         parents,
     } = read_draft(alloc, bytes, rule)?;
-    match whole_file_fault(&codes, &parents, &mut pools) {
-        Some(fault) => Err(ReadError::Bad(fault)),
-        None => Ok(PoolTable { codes, pools }),
-    }
+    pass_over(alloc, &codes, &parents, &mut pools)?;
+    Ok(PoolTable { codes, pools })
 }

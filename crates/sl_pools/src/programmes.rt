@@ -3,6 +3,7 @@ ghost use Rattle.csv.specs.Records.{fields_of};
 ghost use Rattle.sl_codes.specs.Faults.{record_cause, first_fault, IsWrong, IsFirst};
 ghost use Rattle.sl_codes.specs.Records.{Record, records_of, rows_of, field_of, codes_of};
 ghost use Rattle.sl_pools.specs.Programmes.{programme_form, pool_named, programmes_of, IsProgList};
+ghost use Rattle.sl_pools.specs.Taking.{IsRightAfter, IsWrongAfter};
 
 use crate::PoolTable;
 use csv::ByteRecord;
@@ -63,11 +64,14 @@ fn take_programme(
     progs: &mut Vec<PoolId>,
     row: &ByteRecord,
 ) -> Result<(), RowError>
-    ensures right { OnOk result ((before : List Record) → codes.old ≡ codes_of before → record_cause (programme_form pools.now) before (fields_of row.now) ≡ None) }
+    ensures right { let form = programme_form pools.now in
+        OnOk result (IsRightAfter form codes.old (fields_of row.now)) }
     ensures room { OnOk result (length codes.old < MAX_PROGRAMMES) }
     ensures codes { OnOk result (codes.new ≡ codes.old ++ field_of (fields_of row.now) 0 ∷ []) }
-    ensures progs { OnOk result (progs.new.items ≡ progs.old.items ++ pool_named pools.now (fields_of row.now) ∷ []) }
-    ensures wrong { IfErr result (λ e. (before : List Record) → codes.old ≡ codes_of before → IsWrong (record_cause (programme_form pools.now) before (fields_of row.now)) e) }
+    ensures progs { let pool = pool_named pools.now (fields_of row.now) in
+        OnOk result (progs.new.items ≡ progs.old.items ++ pool ∷ []) }
+    ensures wrong { let form = programme_form pools.now in
+        IfErr result (IsWrongAfter form codes.old (fields_of row.now)) }
 {
     if row.len() != HEADER.len() {
         return Err(RowError::Bad(Cause::FieldCount));
@@ -91,10 +95,12 @@ pub fn read_programmes(
     bytes: &[u8],
     pools: &PoolTable,
 ) -> Result<ProgTable, ReadError>
-    ensures right { OnOk result (first_fault (programme_form pools.now.codes) (records_of bytes.now) ≡ None) }
+    ensures right { let first = first_fault (programme_form pools.now.codes) in
+        OnOk result (first (records_of bytes.now) ≡ None) }
     ensures table { IfOk result (λ table. table ≡ programmes_of pools.now.codes (rows_of bytes.now)) }
     ensures within { IfOk result (λ table. All (λ Q. Q.0 < length pools.now.codes) table.pools) }
-    ensures refused { IfErr result (IsFirst (first_fault (programme_form pools.now.codes) (records_of bytes.now))) }
+    ensures refused { let first = first_fault (programme_form pools.now.codes) in
+        IfErr result (IsFirst (first (records_of bytes.now))) }
 {
     let mut records = Records::new(alloc, bytes);
     let mut row = ByteRecord::new(alloc);

@@ -4,25 +4,11 @@ use Rattle.std.proofs.lemmas.List.{length-replicate}
 use Rattle.sl_types.specs.declared.kinds.Raise.{Raise}
 use Rattle.sl_types.specs.Market.{Market}
 use Rattle.sl_laws.specs.Limits.{Limits, with_limit, effective_limit}
-use Rattle.sl_laws.specs.Raises.{after_raise, after_raises, limits_after, zeros, EachRaise, Replays}
+use Rattle.sl_laws.specs.Raises.{MayCome, limits_after, zeros, Replays}
 use Rattle.sl_laws.proofs.Nest.{le_limit, lies_own}
 use Rattle.sl_laws.proofs.Slices.{set_replaces, same_limits}
-use Rattle.sl_proof.specs.Progress.{Progress, MayCome, HasReplayed}
-
--- what one raise more reaches
-pub reached_push : (t : Limits) (c : List Raise) (r : Raise) → after_raises t (c ++ r ∷ []) ≡ after_raise (after_raises t c) r
-reached_push t [] r = refl
-reached_push t (s ∷ c) r = reached_push (after_raise t s) c r
-
--- a fact on each raise, from one raise more
-pub each_push : (market : Market) (F : Limits → Raise → Type 0) (t : Limits) (c : List Raise) (r : Raise) → EachRaise market F t c → r.pool.0 < length market.pools → F (after_raises t c) r → EachRaise market F t (c ++ r ∷ [])
-each_push market F t [] r h within f = (within, f, tt)
-each_push market F t (s ∷ c) r h within f = (h.0, h.1, each_push market F (after_raise t s) c r h.2 within f)
-
--- and to the last raise
-pub each_last : (market : Market) (F : Limits → Raise → Type 0) (t : Limits) (c : List Raise) (r : Raise) → EachRaise market F t (c ++ r ∷ []) → F (after_raises t c) r
-each_last market F t [] r h = h.1
-each_last market F t (s ∷ c) r h = each_last market F (after_raise t s) c r h.2
+use Rattle.sl_laws.proofs.Ends.{after_raises-push, EachRaise-push, EachRaise-last}
+use Rattle.sl_proof.specs.Progress.{Progress, HasReplayed}
 
 all_zero : (n P : ℕ) → slice_index (replicate n 0) P ≡ 0
 all_zero zero P = refl
@@ -56,11 +42,11 @@ replays_more old new c r within may is h =
     let inside : P < length old.limits = omega (arith, within, sizes) in
     rw is (record {
       each = length-set old.limits P x ∙ h.each;
-      replays = each_push market _ zeros c r h.replays within fair;
-      reach = λ Q. set_replaces old.limits P x inside Q ∙ ap (λ (t : Limits). with_limit t P x Q) same ∙ ap (λ (m : ℕ). with_limit (limits_after c) P m Q) top ∙ sym (ap (λ (t : Limits). t Q) (reached_push zeros c r));
+      replays = EachRaise-push market _ zeros c r h.replays within fair;
+      reach = λ Q. set_replaces old.limits P x inside Q ∙ ap (λ (t : Limits). with_limit t P x Q) same ∙ ap (λ (m : ℕ). with_limit (limits_after c) P m Q) top ∙ sym (ap (λ (t : Limits). t Q) (after_raises-push zeros c r));
     })
 
 -- with a raise that may not come the list doesn't replay
 pub replays_no_more : (progress : Progress) (c : List Raise) (r : Raise) → (MayCome progress.instance (slice_index progress.limits) r → ⊥) → HasReplayed progress c → Replays progress.instance (c ++ r ∷ []) → ⊥
 replays_no_more progress c r never h all =
-    never (subst (λ (t : Limits). MayCome progress.instance t r) (sym (kept_limits progress c h)) (each_last progress.instance _ zeros c r all))
+    never (subst (λ (t : Limits). MayCome progress.instance t r) (sym (kept_limits progress c h)) (EachRaise-last progress.instance _ zeros c r all).1)

@@ -4,6 +4,3 @@
 mod replay;
 
 pub use replay::{Replay, Unjust};
-
-#[cfg(test)]
-mod tests;

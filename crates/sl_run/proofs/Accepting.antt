@@ -1,32 +1,35 @@
 -- The first file of a command that isn't accepted.
-use Rattle.std.proofs.Common.{◌≡◌, ◌≤◌, ◌∙◌, ℕ, true, List, refl, sym, ap, subst, inl, inr, arith, Option, Some, None, true≢false}
-use Rattle.std.specs.Prelude.{Bool, []}
+use Rattle.std.proofs.Common.{◌≡◌, ◌≤◌, ◌∙◌, ℕ, zero, suc, true, List, [], ◌∷◌, take, refl, sym, ap, subst, inl, inr, arith, Option, Some, None, true≢false}
+use Rattle.std.proofs.lemmas.List.Elements.{All-nil, All-cons, All-head, All-tail, All-append}
 use Rattle.sl_io.specs.Count.{Rose}
+use Rattle.sl_io.specs.Shelf.{Files, KeepsFiles}
 use Rattle.sl_codes.specs.declared.faults.Table.{Table}
-use Rattle.sl_codes.specs.declared.faults.Table.TheVariants.{Pools, Programmes, Applications, Results, Amendments}
+use Rattle.sl_codes.specs.declared.faults.Table.TheVariants.{Pools, Programmes, Applications}
 use Rattle.sl_codes.specs.declared.faults.TableFault.{TableFault}
 use Rattle.sl_codes.specs.declared.faults.ReadError.{ReadError}
-use Rattle.sl_codes.specs.Faults.{first_fault, IsFirst}
-use Rattle.sl_codes.specs.Records.{records_of, rows_of}
+use Rattle.sl_codes.specs.Faults.{IsFirst}
+use Rattle.sl_codes.specs.Records.{rows_of}
 use Rattle.sl_pools.specs.Pools.{PoolList, pools_of}
-use Rattle.sl_pools.specs.Programmes.{ProgList, programme_form, programmes_of}
-use Rattle.sl_choices.specs.Choices.{ChoiceList, choice_form, choices_of}
+use Rattle.sl_pools.specs.Programmes.{ProgList, programmes_of}
+use Rattle.sl_choices.specs.Choices.{ChoiceList, choices_of}
+use Rattle.sl_types.specs.declared.kinds.Rule.{Rule}
 use Rattle.sl_instance.specs.NamedMarket.{NamedMarket}
 use Rattle.sl_instance.specs.Assembly.{IsAssembled}
+use Rattle.sl_instance.specs.Causes.{merits_fault}
+use Rattle.std.specs.Option.{option_or}
 use Rattle.sl_instance.proofs.Once.{assembled_once}
-use Rattle.sl_run.specs.declared.words.Letter.{Letter}
 use Rattle.sl_run.specs.declared.failure.Failure.{Failure}
 use Rattle.sl_run.specs.declared.failure.Failure.TheVariants.{Words, Refused, TooLong, Unreadable, Unwritable, OutOfMemory}
-use Rattle.sl_run.specs.Words.{Command, clear, check, Inputs, inputs_of, HasTable}
-use Rattle.sl_run.specs.Accepted.{Contents, Holds, HoldsFor, HoldBefore, HoldTables, fault_in, pools_in, progs_in}
-use Rattle.sl_run.specs.Causes.{FaultCounts, IsCause}
+use Rattle.sl_run.specs.Words.{TableNames, File, Inputs, file_of, letter_rule, tables_and, StandsAt}
+use Rattle.sl_run.specs.Accepted.{IsTold, Holds, HoldsFor, Hold, AreHeld, IsRefused, IsTooLong, fault_in, programme_fault, choice_fault, application_fault, pools_in, progs_in}
+use Rattle.sl_run.specs.Causes.{IsCause, SomeFile, RoseOf}
 use Rattle.sl_run.specs.Failures.{failure_of_read}
-use Rattle.sl_run.specs.Fetching.{IsTextOf, Reads, KeepsFiles, IsFileCause}
+use Rattle.sl_run.specs.Fetching.{IsTextOf, Reads, GivesChoices, GivesInstance, IsFileCause}
 use Rattle.sl_run.specs.Run.{is_of_files}
 
 -- what a file holds once
-pub same_text : (contents : Contents) (name a b : List ℕ) → contents name ≡ Some a → contents name ≡ Some b → a ≡ b
-same_text contents name a b ea eb = let e : Some a ≡ Some b = sym ea ∙ eb in cc
+pub same_text : (shelf : Files) (name a b : List ℕ) → shelf.contents name ≡ Some a → shelf.contents name ≡ Some b → a ≡ b
+same_text shelf name a b ea eb = let e : Some a ≡ Some b = sym ea ∙ eb in cc
 
 -- what is known of an instance before its applications are read, before its programmes are, and before its pools are
 abbrev pub with_progs : PoolList → ProgList → NamedMarket
@@ -39,133 +42,210 @@ abbrev pub nothing_read : NamedMarket
 nothing_read = with_pools (record { codes = []; pools = [] })
 
 -- a file that a reader refuses
-pub read_fails : (table : Table) (tells : Bool) (contents : Contents) (name : List ℕ) (before after : ℕ) (first : List ℕ → Option TableFault) (bytes : List ℕ) (error : ReadError)
-    → IsTextOf tells contents name bytes → IsFirst (first bytes) error → IsFileCause table tells contents name before after first (failure_of_read error)
-read_fails table tells contents name before after first bytes (ReadError.Bad fault) of is = inr (fault, refl, (bytes, is, of))
-read_fails table tells contents name before after first bytes ReadError.OutOfMemory of is = inl (inr (inr refl))
+pub read_fails : (table : Table) (first : List ℕ → Option TableFault) (before after : Files) (name : List ℕ) (bytes : List ℕ) (error : ReadError)
+    → IsTextOf before name bytes → IsFirst (first bytes) error → IsFileCause table first before after name (failure_of_read error)
+read_fails table first before after name bytes (ReadError.Bad fault) of is = inr (fault, refl, (bytes, is, of))
+read_fails table first before after name bytes ReadError.OutOfMemory of is = inl (inr (inr refl))
 
-module _ (contents : Contents) (inputs : Inputs) where
-  -- the pools that two instances have in one file
-  pub same_pools : (n n' : NamedMarket) → HoldsFor contents inputs n Pools → HoldsFor contents inputs n' Pools → pools_in n ≡ pools_in n'
+-- the fault of the records of an application table is its fault, and else that of merits in trees is
+first_of : (a b : Option TableFault) (fault : TableFault) → a ≡ Some fault → option_or a b ≡ Some fault
+first_of a b fault is = rw is refl
+
+later_of : (a b : Option TableFault) (error : ReadError) → a ≡ None → IsFirst b error → IsFirst (option_or a b) error
+later_of a b (ReadError.Bad fault) none is = rw none is
+later_of a b ReadError.OutOfMemory none is = tt
+
+module _ (before after : Files) (name : List ℕ) (pools : PoolList) (progs : ProgList) where
+  -- records that are refused
+  pub choices_fail : (failure : Failure) → IsFileCause Applications (choice_fault progs.codes) before after name failure
+      → IsFileCause Applications (application_fault pools progs) before after name failure
+  choices_fail failure (inl unread) = inl unread
+  choices_fail failure (inr (fault, e, (text, is, of))) =
+      inr (fault, e, (text, first_of (choice_fault progs.codes text) (merits_fault pools progs (choices_of progs.codes (rows_of text))) fault is, of))
+
+  module _ (choices : ChoiceList) (read : Reads before name (GivesChoices progs.codes choices)) where
+    -- merits that are refused
+    pub merits_fail : (error : ReadError) → IsFirst (merits_fault pools progs choices) error
+        → IsFileCause Applications (application_fault pools progs) before after name (failure_of_read error)
+    merits_fail error first =
+        let (text, (right, gives), of) = read in
+        let here = subst (λ (c : ChoiceList). IsFirst (merits_fault pools progs c) error) (sym gives) first in
+        read_fails Applications (application_fault pools progs) before after name text error of
+        (later_of (choice_fault progs.codes text) (merits_fault pools progs (choices_of progs.codes (rows_of text))) error right here)
+
+    -- a table that is accepted
+    pub instance_read : (n : NamedMarket) → merits_fault pools progs choices ≡ None → IsAssembled pools progs choices n → Reads before name (GivesInstance pools progs n)
+    instance_read n none made =
+        let (text, (right, gives), of) = read in
+        let here : merits_fault pools progs (choices_of progs.codes (rows_of text)) ≡ None = ap (λ (c : ChoiceList). merits_fault pools progs c) gives ∙ none in
+        (text, (rw (right, here) refl, subst (λ (c : ChoiceList). IsAssembled pools progs c n) (sym gives) made), of)
+
+module _ (shelf : Files) (rule : Rule) (t : TableNames) where
+  abbrev pools_file : File
+  pools_file = file_of Pools t.pools
+
+  abbrev progs_file : File
+  progs_file = file_of Programmes t.programmes
+
+  abbrev apps_file : File
+  apps_file = file_of Applications t.applications
+
+  -- the pools that two instances have in one file, and the programmes
+  pub same_pools : (n n' : NamedMarket) → HoldsFor shelf rule n pools_file → HoldsFor shelf rule n' pools_file → pools_in n ≡ pools_in n'
   same_pools n n' (text, told, few, (right, gives)) (text', told', few', (right', gives')) =
-      let e = same_text contents (inputs.names Pools) text' text told' told in
-      sym gives ∙ (ap (λ (s : List ℕ). pools_of inputs.rule (rows_of s)) (sym e) ∙ gives')
+      let e = same_text shelf t.pools text' text told' told in
+      sym gives ∙ (ap (λ (s : List ℕ). pools_of rule (rows_of s)) (sym e) ∙ gives')
 
-  pub same_programmes : (n n' : NamedMarket) → n.pool_codes ≡ n'.pool_codes → HoldsFor contents inputs n Programmes → HoldsFor contents inputs n' Programmes → progs_in n ≡ progs_in n'
+  pub same_programmes : (n n' : NamedMarket) → n.pool_codes ≡ n'.pool_codes → HoldsFor shelf rule n progs_file → HoldsFor shelf rule n' progs_file → progs_in n ≡ progs_in n'
   same_programmes n n' codes (text, told, few, (right, gives)) (text', told', few', (right', gives')) =
-      let e = same_text contents (inputs.names Programmes) text' text told' told in
+      let e = same_text shelf t.programmes text' text told' told in
       let here : programmes_of n.pool_codes (rows_of text) ≡ progs_in n' = rw (codes, sym e) gives' in
       sym gives ∙ here
 
-  -- files hold the tables of one instance at most
-  pub tables_once : (n n' : NamedMarket) → HoldTables contents inputs n → HoldTables contents inputs n' → n ≡ n'
-  tables_once n n' (pools, programmes, (text, told, few, (right, gives))) (pools', programmes', (text', told', few', (right', gives'))) =
-      let ps = same_pools n n' pools pools' in
-      let gs = same_programmes n n' (ap (λ (p : PoolList). p.codes) ps) programmes programmes' in
-      let e = same_text contents (inputs.names Applications) text' text told' told in
+  one_instance : (n n' : NamedMarket) → pools_in n ≡ pools_in n' → progs_in n ≡ progs_in n' → HoldsFor shelf rule n apps_file → HoldsFor shelf rule n' apps_file → n ≡ n'
+  one_instance n n' ps gs (text, told, few, (right, gives)) (text', told', few', (right', gives')) =
+      let e = same_text shelf t.applications text' text told' told in
       let codes = ap (λ (g : ProgList). g.codes) gs in
       let here : IsAssembled (pools_in n) (progs_in n) (choices_of n.prog_codes (rows_of text)) n' = rw (ps, gs, codes, sym e) gives' in
       assembled_once (pools_in n) (progs_in n) (choices_of n.prog_codes (rows_of text)) n n' gives here
 
-  -- over two instances that have what the files before hold, the file of a table has the same first fault
-  pub same_fault : (n n' : NamedMarket) (table : Table) → HoldBefore contents inputs n table → HoldBefore contents inputs n' table → (text : List ℕ) → fault_in inputs.rule n table text ≡ fault_in inputs.rule n' table text
-  same_fault n n' Pools held held' text = refl
-  same_fault n n' Programmes held held' text =
-      ap (λ (codes : List (List ℕ)). first_fault (programme_form codes) (records_of text)) (ap (λ (p : PoolList). p.codes) (same_pools n n' held held'))
-  same_fault n n' Applications held held' text =
-      let ps = same_pools n n' held.0 held'.0 in
-      let gs = same_programmes n n' (ap (λ (p : PoolList). p.codes) ps) held.1 held'.1 in
-      ap (λ (codes : List (List ℕ)). first_fault (choice_form codes) (records_of text)) (ap (λ (g : ProgList). g.codes) gs)
-  same_fault n n' Results held held' text = ap (λ (m : NamedMarket). fault_in inputs.rule m Results text) (tables_once n n' held held')
-  same_fault n n' Amendments held held' text = refl
+  -- files that begin with the three tables: those of two instances
+  module _ (n n' : NamedMarket) where
+    pools_too : (files : List File) → Hold shelf rule n (pools_file ∷ files) → Hold shelf rule n' (pools_file ∷ files) → pools_in n ≡ pools_in n'
+    pools_too files h h' = same_pools n n' (All-head (HoldsFor shelf rule n) pools_file files h) (All-head (HoldsFor shelf rule n') pools_file files h')
 
--- the instance that was assembled of three tables is theirs
-pub made_of_tables : (contents : Contents) (inputs : Inputs) (pools : PoolList) (progs : ProgList) (choices : ChoiceList) (n : NamedMarket) → IsAssembled pools progs choices n
-    → HoldsFor contents inputs (with_progs pools progs) Pools → HoldsFor contents inputs (with_progs pools progs) Programmes
-    → Holds contents (inputs.names Applications) (λ text. (first_fault (choice_form progs.codes) (records_of text) ≡ None) × (choices_of progs.codes (rows_of text) ≡ choices)) → HoldTables contents inputs n
-made_of_tables contents inputs pools progs choices n made (text, told, few, (right, gives)) (text', told', few', (right', gives')) (text'', told'', few'', (right'', gives'')) =
-    let ps : pools_in n ≡ pools = rw (made.pool_codes, made.pools_are) refl in
-    let gs : progs_in n ≡ progs = rw (made.prog_codes, made.progs_are) refl in
-    let same : choices_of n.prog_codes (rows_of text'') ≡ choices = rw made.prog_codes gives'' in
-    let own : IsAssembled (pools_in n) (progs_in n) choices n =
-    record { pools_are = refl; progs_are = refl; pool_codes = refl; prog_codes = refl; app_codes = made.app_codes; each = made.each; lists = made.lists } in (
-      (text, told, few, (right, gives ∙ sym ps)),
-      (text', told', few', (rw made.pool_codes right', rw made.pool_codes (gives' ∙ sym gs))),
-      (text'', told'', few'', (rw made.prog_codes right'', subst (λ (c : ChoiceList). IsAssembled (pools_in n) (progs_in n) c n) (sym same) own)),
-    )
+    progs_too : (files : List File) → Hold shelf rule n (pools_file ∷ progs_file ∷ files) → Hold shelf rule n' (pools_file ∷ progs_file ∷ files) → progs_in n ≡ progs_in n'
+    progs_too files h h' =
+        let rest = All-tail (HoldsFor shelf rule n) pools_file (progs_file ∷ files) h in
+        let rest' = All-tail (HoldsFor shelf rule n') pools_file (progs_file ∷ files) h' in
+        same_programmes n n' (ap (λ (p : PoolList). p.codes) (pools_too (progs_file ∷ files) h h'))
+        (All-head (HoldsFor shelf rule n) progs_file files rest) (All-head (HoldsFor shelf rule n') progs_file files rest')
+
+    -- files hold the tables of one instance at most
+    pub tables_once : (files : List File) → Hold shelf rule n (pools_file ∷ progs_file ∷ apps_file ∷ files) → Hold shelf rule n' (pools_file ∷ progs_file ∷ apps_file ∷ files) → n ≡ n'
+    tables_once files h h' =
+        let rest = All-tail (HoldsFor shelf rule n) progs_file (apps_file ∷ files) (All-tail (HoldsFor shelf rule n) pools_file (progs_file ∷ apps_file ∷ files) h) in
+        let rest' = All-tail (HoldsFor shelf rule n') progs_file (apps_file ∷ files) (All-tail (HoldsFor shelf rule n') pools_file (progs_file ∷ apps_file ∷ files) h') in
+        one_instance n n' (pools_too (progs_file ∷ apps_file ∷ files) h h') (progs_too (apps_file ∷ files) h h')
+        (All-head (HoldsFor shelf rule n) apps_file files rest) (All-head (HoldsFor shelf rule n') apps_file files rest')
+
+    -- over two instances that have what the files before hold, a file has the same first fault
+    pub same_fault : (more : List File) (k : ℕ) (file : File) → StandsAt (tables_and t more) k file
+        → Hold shelf rule n (take k (tables_and t more).files) → Hold shelf rule n' (take k (tables_and t more).files)
+        → (text : List ℕ) → fault_in rule n file.table text ≡ fault_in rule n' file.table text
+    same_fault more zero file at h h' text =
+        let e : Some pools_file ≡ Some file = at in
+        let is : pools_file ≡ file = cc in
+        subst (λ (f : File). fault_in rule n f.table text ≡ fault_in rule n' f.table text) is refl
+    same_fault more (suc zero) file at h h' text =
+        let e : Some progs_file ≡ Some file = at in
+        let is : progs_file ≡ file = cc in
+        let codes = ap (λ (p : PoolList). p.codes) (pools_too [] h h') in
+        subst (λ (f : File). fault_in rule n f.table text ≡ fault_in rule n' f.table text) is (ap (λ (c : List (List ℕ)). programme_fault c text) codes)
+    same_fault more (suc (suc zero)) file at h h' text =
+        let e : Some apps_file ≡ Some file = at in
+        let is : apps_file ≡ file = cc in
+        let ps = pools_too (progs_file ∷ []) h h' in
+        let gs = progs_too [] h h' in
+        subst (λ (f : File). fault_in rule n f.table text ≡ fault_in rule n' f.table text) is
+        (ap (λ (p : PoolList). application_fault p (progs_in n) text) ps ∙ ap (λ (g : ProgList). application_fault (pools_in n') g text) gs)
+    same_fault more (suc (suc (suc k))) file at h h' text = ap (λ (m : NamedMarket). fault_in rule m file.table text) (tables_once (take k more) h h')
+
+  -- the instance that was assembled of three tables is theirs
+  pub made_of_tables : (pools : PoolList) (progs : ProgList) (n : NamedMarket)
+      → HoldsFor shelf rule (with_progs pools progs) pools_file → HoldsFor shelf rule (with_progs pools progs) progs_file
+      → Holds shelf t.applications (GivesInstance pools progs n) → Hold shelf rule n (tables_and t []).files
+  made_of_tables pools progs n (text, told, few, (right, gives)) (text', told', few', (right', gives')) (text'', told'', few'', (right'', made)) =
+      let ps : pools_in n ≡ pools = rw (made.pool_codes, made.pools_are) refl in
+      let gs : progs_in n ≡ progs = rw (made.prog_codes, made.progs_are) refl in
+      let choices = choices_of progs.codes (rows_of text'') in
+      let same : choices_of n.prog_codes (rows_of text'') ≡ choices = rw made.prog_codes refl in
+      let own : IsAssembled (pools_in n) (progs_in n) choices n =
+      record { pools_are = refl; progs_are = refl; pool_codes = refl; prog_codes = refl; app_codes = made.app_codes; each = made.each; lists = made.lists } in
+      let right_here : application_fault (pools_in n) (progs_in n) text'' ≡ None = ap (λ (p : PoolList). application_fault p (progs_in n) text'') ps ∙ (ap (λ (g : ProgList). application_fault pools g text'') gs ∙ right'') in
+      let P = HoldsFor shelf rule n in
+      All-cons P pools_file (progs_file ∷ apps_file ∷ []) (text, told, few, (right, gives ∙ sym ps))
+      (All-cons P progs_file (apps_file ∷ []) (text', told', few', (rw made.pool_codes right', rw made.pool_codes (gives' ∙ sym gs)))
+      (All-cons P apps_file [] (text'', told'', few'', (right_here, subst (λ (c : ChoiceList). IsAssembled (pools_in n) (progs_in n) c n) (sym same) own)) (All-nil P)))
+
+  -- one more file
+  pub one_more : (n : NamedMarket) (file : File) → Hold shelf rule n (tables_and t []).files → HoldsFor shelf rule n file → Hold shelf rule n (tables_and t (file ∷ [])).files
+  one_more n file held here =
+      let P = HoldsFor shelf rule n in All-append P (pools_file ∷ progs_file ∷ apps_file ∷ []) (file ∷ []) held (All-cons P file [] here (All-nil P))
 
 rose_from : (a b now : ℕ) → a ≤ b → Rose b now → Rose a now
 rose_from a b now le rose = omega (arith, le, rose)
 
 -- nothing has happened to a shelf
-pub keeps_itself : (tells : Bool) (contents : Contents) (counts : FaultCounts) → KeepsFiles tells tells contents contents counts counts
-keeps_itself tells contents counts = record { still_tells = refl; same = λ name. refl; never_falls = λ name. omega arith }
+pub keeps_itself : (shelf : Files) → KeepsFiles shelf shelf
+keeps_itself shelf = record { still_tells = refl; same = λ name. refl; never_falls = λ name. omega arith }
 
-pub keeps_on : (tells tells' tells'' : Bool) (contents contents' contents'' : Contents) (before mid after : FaultCounts)
-    → KeepsFiles tells tells' contents contents' before mid → KeepsFiles tells' tells'' contents' contents'' mid after → KeepsFiles tells tells'' contents contents'' before after
-keeps_on tells tells' tells'' contents contents' contents'' before mid after k l = record {
+pub keeps_on : (before mid after : Files) → KeepsFiles before mid → KeepsFiles mid after → KeepsFiles before after
+keeps_on before mid after k l = record {
   still_tells = l.still_tells ∙ k.still_tells;
   same = λ (name : List ℕ). l.same name ∙ k.same name;
   never_falls = λ (name : List ℕ). let p = k.never_falls name in let q = l.never_falls name in omega (arith, p, q);
 }
 
-pub keeps_thrice : (tells tells' tells'' tells''' : Bool) (contents contents' contents'' contents''' : Contents) (before mid late after : FaultCounts)
-    → KeepsFiles tells tells' contents contents' before mid → KeepsFiles tells' tells'' contents' contents'' mid late → KeepsFiles tells'' tells''' contents'' contents''' late after → KeepsFiles tells tells''' contents contents''' before after
-keeps_thrice tells tells' tells'' tells''' contents contents' contents'' contents''' before mid late after k l m =
-    keeps_on tells tells'' tells''' contents contents'' contents''' before late after (keeps_on tells tells' tells'' contents contents' contents'' before mid late k l) m
-
 -- what is told of the file later was told of it before
-pub told_before : (tells tells' : Bool) (contents contents' : Contents) (before mid : FaultCounts) (name : List ℕ) (P : List ℕ → Type 0) → KeepsFiles tells tells' contents contents' before mid
-    → Reads tells' contents' name P → tells ≡ true → Holds contents name P
-told_before tells tells' contents contents' before mid name P k (text, passes, of) t =
+pub told_before : (before mid : Files) (name : List ℕ) (P : List ℕ → Type 0) → KeepsFiles before mid → Reads mid name P → IsTold before → Holds before name P
+told_before before mid name P k (text, passes, of) t =
     let told = of (k.still_tells ∙ t) in (text, sym (k.same name) ∙ told.0, told.1, passes)
 
--- the file of a table that wasn't read is the first that isn't accepted
-pub file_fails : (tells tells' : Bool) (contents contents' : Contents) (command : Command) (before mid after : FaultCounts) (n : NamedMarket) (table : Table)
-    → KeepsFiles tells tells' contents contents' before mid → HasTable command table → (tells ≡ true → HoldBefore contents (inputs_of command) n table) → (failure : Failure)
-    → IsFileCause table tells' contents' ((inputs_of command).names table) (mid ((inputs_of command).names table)) (after ((inputs_of command).names table)) (fault_in (inputs_of command).rule n table) failure
-    → IsCause tells contents command before after failure
-file_fails tells tells' contents contents' command before mid after n table k has earlier failure (inl (inl (e, rose))) =
-    let name = (inputs_of command).names table in rw e (has, rose_from (before name) (mid name) (after name) (k.never_falls name) rose, λ t. (n, earlier t))
-file_fails tells tells' contents contents' command before mid after n table k has earlier failure (inl (inr (inl (e, long)))) =
-    rw e (has, λ t. let much = long (k.still_tells ∙ t) in record { before = (n, earlier t); told = (much.0, sym (k.same ((inputs_of command).names table)) ∙ much.1, much.2) })
-file_fails tells tells' contents contents' command before mid after n table k has earlier failure (inl (inr (inr e))) = rw e tt
-file_fails tells tells' contents contents' command before mid after n table k has earlier failure (inr (fault, e, reads)) =
+-- a file that wasn't read is the first that isn't accepted
+pub file_fails : (before mid after : Files) (inputs : Inputs) (n : NamedMarket) (k : ℕ) (file : File) → KeepsFiles before mid → StandsAt inputs k file
+    → (IsTold before → Hold before inputs.rule n (take k inputs.files)) → (failure : Failure)
+    → IsFileCause file.table (fault_in inputs.rule n file.table) mid after file.name failure → IsCause inputs before after failure
+file_fails before mid after inputs n k file keeps at earlier failure (inl (inl (e, rose))) =
+    rw e (k, file, at, (refl, rose_from (before.faults file.name) (mid.faults file.name) (after.faults file.name) (keeps.never_falls file.name) rose, λ t. (n, earlier t)))
+file_fails before mid after inputs n k file keeps at earlier failure (inl (inr (inl (e, long)))) =
     rw e (
-      table,
-      has,
+      k,
+      file,
+      at,
+      (
+        refl,
+        λ t.
+            let much = long (keeps.still_tells ∙ t) in
+            record { before = (n, earlier t); told = (much.0, sym (keeps.same file.name) ∙ much.1, much.2) },
+      ),
+    )
+file_fails before mid after inputs n k file keeps at earlier failure (inl (inr (inr e))) = rw e tt
+file_fails before mid after inputs n k file keeps at earlier failure (inr (fault, e, reads)) =
+    rw e (
+      k,
+      file,
+      at,
       λ t. record {
         n = n;
         before = earlier t;
-        first = told_before tells tells' contents contents' before mid ((inputs_of command).names table) (λ text. fault_in (inputs_of command).rule n table text ≡ Some fault) k reads t;
+        first = told_before before mid file.name (λ text. fault_in inputs.rule n file.table text ≡ Some fault) keeps reads t;
       },
     )
 
--- a check reads the tables as a clearing does
-pub same_tables : (tells : Bool) (contents : Contents) (letter : Letter) (p g a d : List ℕ) (before after : FaultCounts) (failure : Failure) → is_of_files failure ≡ true → IsCause tells contents (clear letter p g a) before after failure
-    → IsCause tells contents (check letter p g a d) before after failure
-same_tables tells contents letter p g a d before after Words late cause = cause
-same_tables tells contents letter p g a d before after (Refused fault) late (Pools, has, of) = (Pools, tt, λ t. let c = of t in record { n = c.n; before = c.before; first = c.first })
-same_tables tells contents letter p g a d before after (Refused fault) late (Programmes, has, of) = (Programmes, tt, λ t. let c = of t in record { n = c.n; before = c.before; first = c.first })
-same_tables tells contents letter p g a d before after (Refused fault) late (Applications, has, of) = (Applications, tt, λ t. let c = of t in record { n = c.n; before = c.before; first = c.first })
-same_tables tells contents letter p g a d before after (Refused fault) late (Results, has, of) = absurd has
-same_tables tells contents letter p g a d before after (Refused fault) late (Amendments, has, of) = absurd has
-same_tables tells contents letter p g a d before after (TooLong Pools) late cause = (tt, λ t. let c = cause.1 t in record { before = c.before; told = c.told })
-same_tables tells contents letter p g a d before after (TooLong Programmes) late cause = (tt, λ t. let c = cause.1 t in record { before = c.before; told = c.told })
-same_tables tells contents letter p g a d before after (TooLong Applications) late cause = (tt, λ t. let c = cause.1 t in record { before = c.before; told = c.told })
-same_tables tells contents letter p g a d before after (TooLong Results) late cause = absurd cause.0
-same_tables tells contents letter p g a d before after (TooLong Amendments) late cause = absurd cause.0
-same_tables tells contents letter p g a d before after (Unreadable Pools) late cause = (tt, cause.1, cause.2)
-same_tables tells contents letter p g a d before after (Unreadable Programmes) late cause = (tt, cause.1, cause.2)
-same_tables tells contents letter p g a d before after (Unreadable Applications) late cause = (tt, cause.1, cause.2)
-same_tables tells contents letter p g a d before after (Unreadable Results) late cause = absurd cause.0
-same_tables tells contents letter p g a d before after (Unreadable Amendments) late cause = absurd cause.0
-same_tables tells contents letter p g a d before after Unwritable late cause = absurd (true≢false (sym late))
-same_tables tells contents letter p g a d before after OutOfMemory late cause = tt
+-- one of three tables is one of more files, after the same
+some_more : (t : TableNames) (more : List File) (P : List File → File → Type 0) → SomeFile (tables_and t []) P → SomeFile (tables_and t more) P
+some_more t more P (zero, file, at, p) = (zero, file, at, p)
+some_more t more P (suc zero, file, at, p) = (suc zero, file, at, p)
+some_more t more P (suc (suc zero), file, at, p) = (suc (suc zero), file, at, p)
+some_more t more P (suc (suc (suc k)), file, at, p) = cc at
+
+-- a command reads its tables as one that reads them alone
+pub cause_on : (t : TableNames) (more : List File) (before after : Files) (failure : Failure) → is_of_files failure ≡ true
+    → IsCause (tables_and t []) before after failure → IsCause (tables_and t more) before after failure
+cause_on t more before after Words late cause = cause
+cause_on t more before after (Refused fault) late cause =
+    some_more t more (λ earlier file. IsTold before → IsRefused before (letter_rule t.letter) earlier file fault) cause
+cause_on t more before after (TooLong table) late cause =
+    some_more t more (λ earlier file. (file.table ≡ table) × (IsTold before → IsTooLong before (letter_rule t.letter) earlier file)) cause
+cause_on t more before after (Unreadable table) late cause = some_more t more
+    (λ earlier file. (file.table ≡ table) × RoseOf before after file × (IsTold before → AreHeld before (letter_rule t.letter) earlier)) cause
+cause_on t more before after Unwritable late cause = absurd (true≢false (sym late))
+cause_on t more before after OutOfMemory late cause = tt
 
 -- a file that wasn't read is the cause of a failure of files
-pub file_late : (table : Table) (tells : Bool) (contents : Contents) (name : List ℕ) (before after : ℕ) (first : List ℕ → Option TableFault) (failure : Failure) → IsFileCause table tells contents name before after first failure → is_of_files failure ≡ true
-file_late table tells contents name before after first failure (inl (inl (e, rose))) = rw e refl
-file_late table tells contents name before after first failure (inl (inr (inl (e, long)))) = rw e refl
-file_late table tells contents name before after first failure (inl (inr (inr e))) = rw e refl
-file_late table tells contents name before after first failure (inr (fault, e, reads)) = rw e refl
+pub file_late : (table : Table) (first : List ℕ → Option TableFault) (before after : Files) (name : List ℕ) (failure : Failure) → IsFileCause table first before after name failure → is_of_files failure ≡ true
+file_late table first before after name failure (inl (inl (e, rose))) = rw e refl
+file_late table first before after name failure (inl (inr (inl (e, long)))) = rw e refl
+file_late table first before after name failure (inl (inr (inr e))) = rw e refl
+file_late table first before after name failure (inr (fault, e, reads)) = rw e refl

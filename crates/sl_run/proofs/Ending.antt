@@ -1,59 +1,34 @@
 -- How a command ends, by what its files hold.
-use Rattle.std.proofs.Common.{◌≡◌, ◌∙◌, ℕ, Bool, true, false, true≢false, List, [], get_or, length, refl, sym, ap, subst, inl, inr, arith, Some, None}
-use Rattle.std.specs.Prelude.{◌⊎◌, ◌↔◌, codes}
-use Rattle.std.specs.Str.{bytes_eq}
-use Rattle.sl_io.specs.Count.{Rose}
-use Rattle.sl_codes.specs.declared.faults.Table.{Table}
-use Rattle.sl_codes.specs.declared.faults.Table.TheVariants.{Pools, Programmes, Applications, Results, Amendments}
+use Rattle.std.proofs.Common.{◌≡◌, ◌∙◌, ℕ, List, [], ◌∷◌, take, length, refl, sym, ap, subst, inl, inr, arith, Some, None}
+use Rattle.std.specs.Prelude.{◌⊎◌, ◌↔◌, Any, Result, Ok, Err, IfErr, IsErrOf}
+use Rattle.std.proofs.lemmas.List.Elements.{All-take}
+use Rattle.sl_io.specs.Shelf.{Files}
+use Rattle.sl_io.specs.Sink.{Output, RoseIn}
+use Rattle.sl_check.specs.declared.verdict.Verdict.{Verdict}
+use Rattle.sl_check.specs.declared.verdict.Verdict.TheVariants.{Yes}
+use Rattle.sl_codes.specs.declared.faults.Table.TheVariants.{Results}
 use Rattle.sl_codes.specs.declared.faults.TableFault.{TableFault}
 use Rattle.sl_instance.specs.NamedMarket.{NamedMarket}
 use Rattle.sl_run.specs.declared.failure.Failure.{Failure}
 use Rattle.sl_run.specs.declared.failure.Failure.TheVariants.{Words, Refused, TooLong, Unreadable, Unwritable, OutOfMemory}
-use Rattle.sl_run.specs.declared.words.Letter.TheVariants.{H, L}
-use Rattle.sl_run.specs.Words.{Command, clear, check, Inputs, words_of, inputs_of, HasTable, last_table, IsCheck, AreNoCommand}
-use Rattle.sl_run.specs.Accepted.{Contents, HoldsFor, HoldUpTo, AreAcceptedBefore, IsRefused, IsTooLong, IsStop, fault_in}
-use Rattle.sl_run.specs.Run.{IsCarriedOut, CarriesOut}
-use Rattle.sl_run.specs.Causes.{FaultCounts, RoseAt, RoseUpTo, AreAccepted, IsCause, IsCauseOf, IsDone, Refuses, Completes}
+use Rattle.sl_run.specs.Words.{TableNames, Command, clear, check, File, file_of, command_of, inputs_of, letter_rule, tables_and, StandsAt, IsCheck, AreNoCommand}
+use Rattle.sl_run.specs.Accepted.{IsTold, HoldsFor, Hold, AreAccepted, IsRefused, IsTooLong, IsStop, fault_in}
+use Rattle.sl_run.specs.Causes.{RoseOf, RoseUpTo, IsCause, IsCauseOf, Refuses, Completes}
+use Rattle.sl_run.specs.Ending.{Ending, ending_of, status_of_verdict, EndsWith, IsQuiet}
+use Rattle.sl_run.specs.Run.{IsCarriedOut, CarriesOut, EndQuietly, Ends}
 use Rattle.sl_run.specs.Failures.{status_of}
 use Rattle.sl_run.proofs.Accepting.{same_text, same_fault}
+use Rattle.sl_run.proofs.Faultless.{accepted_of}
+use Rattle.sl_run.proofs.Places.{any_at, all_at, up_to_stop}
 
-pub only_output : (failure : Failure) → status_of failure ≡ 5 → failure ≡ Unwritable
-only_output Words e = absurd (omega (arith, e))
-only_output (Refused fault) e = absurd (omega (arith, e))
-only_output (TooLong table) e = absurd (omega (arith, e))
-only_output (Unreadable table) e = absurd (omega (arith, e))
-only_output Unwritable e = refl
-only_output OutOfMemory e = absurd (omega (arith, e))
+-- the words are those of one command
+pub one_command : (words : List (List ℕ)) (c d : Command) → command_of words ≡ Some c → command_of words ≡ Some d → c ≡ d
+one_command words c d ec ed = let e : Some c ≡ Some d = sym ec ∙ ed in cc
 
-pub only_memory : (failure : Failure) → status_of failure ≡ 6 → failure ≡ OutOfMemory
-only_memory Words e = absurd (omega (arith, e))
-only_memory (Refused fault) e = absurd (omega (arith, e))
-only_memory (TooLong table) e = absurd (omega (arith, e))
-only_memory (Unreadable table) e = absurd (omega (arith, e))
-only_memory Unwritable e = absurd (omega (arith, e))
-only_memory OutOfMemory e = refl
-
--- words that differ at one place
-word_differs : (words words' : List (List ℕ)) (k : ℕ) (word : List ℕ) → bytes_eq (get_or words k []) word ≡ true → bytes_eq (get_or words' k []) word ≡ false → words ≡ words' → ⊥
-word_differs words words' k word is isnt e = true≢false (sym is ∙ (ap (λ (ws : List (List ℕ)). bytes_eq (get_or ws k []) word) e ∙ isnt))
-
--- the words of two commands are the same only where the commands are
-pub same_command : (c d : Command) → words_of c ≡ words_of d → c ≡ d
-same_command (clear H p g a) (clear H p' g' a') e = cc
-same_command (clear L p g a) (clear L p' g' a') e = cc
-same_command (check H p g a d) (check H p' g' a' d') e = cc
-same_command (check L p g a d) (check L p' g' a' d') e = cc
-same_command (clear H p g a) (clear L p' g' a') e = absurd (word_differs _ _ 1 (codes "H") refl refl e)
-same_command (clear L p g a) (clear H p' g' a') e = absurd (word_differs _ _ 1 (codes "L") refl refl e)
-same_command (check H p g a d) (check L p' g' a' d') e = absurd (word_differs _ _ 1 (codes "H") refl refl e)
-same_command (check L p g a d) (check H p' g' a' d') e = absurd (word_differs _ _ 1 (codes "L") refl refl e)
-same_command (clear l p g a) (check l' p' g' a' d') e = absurd (word_differs _ _ 0 (codes "clear") refl refl e)
-same_command (check l p g a d) (clear l' p' g' a') e = absurd (word_differs _ _ 0 (codes "check") refl refl e)
-
-module _ (contents : Contents) (inputs : Inputs) where
+module _ (shelf : Files) (t : TableNames) (more : List File) (n : NamedMarket) (k : ℕ) (file : File) where
   -- a file that is told once isn't both accepted and too long
-  not_both : (n : NamedMarket) (table : Table) → HoldsFor contents inputs n table → IsTooLong contents inputs table → ⊥
-  not_both n table (text, told, few, passes) long =
+  not_long : (earlier : List File) → HoldsFor shelf (letter_rule t.letter) n file → IsTooLong shelf (letter_rule t.letter) earlier file → ⊥
+  not_long earlier (text, told, few, passes) long =
       let e : Some text ≡ Some long.told.0 = sym told ∙ long.told.1 in
       let same : text ≡ long.told.0 = cc in
       let sizes = ap length same in
@@ -61,149 +36,136 @@ module _ (contents : Contents) (inputs : Inputs) where
       omega (arith, few, much, sizes)
 
   -- nor both accepted and refused
-  not_refused : (n : NamedMarket) (table : Table) (fault : TableFault) → HoldUpTo contents inputs n table → IsRefused contents inputs table fault → ⊥
-  not_refused n table fault (before, (text, told, few, (right, gives))) refused =
+  not_refused : (fault : TableFault) → StandsAt (tables_and t more) k file → Hold shelf (letter_rule t.letter) n (take k (tables_and t more).files)
+      → HoldsFor shelf (letter_rule t.letter) n file → IsRefused shelf (letter_rule t.letter) (take k (tables_and t more).files) file fault → ⊥
+  not_refused fault at before (text, told, few, (right, gives)) refused =
+      let rule = letter_rule t.letter in
       let (text', told', few', first) = refused.first in
-      let e = same_text contents (inputs.names table) text text' told told' in
-      let none : fault_in inputs.rule n table text' ≡ None = subst (λ (s : List ℕ). fault_in inputs.rule n table s ≡ None) e right in
-      let both : Some fault ≡ None = sym first ∙ (same_fault contents inputs refused.n n table refused.before before text' ∙ none) in
+      let e = same_text shelf file.name text text' told told' in
+      let none : fault_in rule n file.table text' ≡ None = subst (λ (s : List ℕ). fault_in rule n file.table s ≡ None) e right in
+      let both : Some fault ≡ None = sym first ∙ (same_fault shelf rule t refused.n n more k file at refused.before before text' ∙ none) in
       cc
 
   -- an accepted file isn't the first that isn't
-  no_stop : (n : NamedMarket) (table : Table) → HoldUpTo contents inputs n table → IsStop contents inputs table → ⊥
-  no_stop n table up (inl (fault, refused)) = not_refused n table fault up refused
-  no_stop n table up (inr long) = not_both n table up.1 long
+  not_stop : StandsAt (tables_and t more) k file → Hold shelf (letter_rule t.letter) n (take k (tables_and t more).files)
+      → HoldsFor shelf (letter_rule t.letter) n file → IsStop shelf (letter_rule t.letter) (take k (tables_and t more).files) file → ⊥
+  not_stop at before here (inl (fault, refused)) = not_refused fault at before here refused
+  not_stop at before here (inr long) = not_long (take k (tables_and t more).files) here long
 
-  -- the first file that isn't accepted is that of a table, and all before another are: no fault came after it
-  stops : (before after : FaultCounts) (at table : Table) → RoseAt before after inputs at → AreAcceptedBefore contents inputs at → IsStop contents inputs table → RoseUpTo before after inputs table
-  stops before after Pools Pools rose accepted stop = rose
-  stops before after Pools Programmes rose accepted stop = inl rose
-  stops before after Pools Applications rose accepted stop = inl rose
-  stops before after Pools Results rose accepted stop = inl rose
-  stops before after Pools Amendments rose accepted stop = inl rose
-  stops before after Programmes Pools rose (n, held) stop = absurd (no_stop n Pools (tt, held) stop)
-  stops before after Programmes Programmes rose accepted stop = inr rose
-  stops before after Programmes Applications rose accepted stop = inr (inl rose)
-  stops before after Programmes Results rose accepted stop = inr (inl rose)
-  stops before after Programmes Amendments rose accepted stop = inr (inl rose)
-  stops before after Applications Pools rose (n, held) stop = absurd (no_stop n Pools (tt, held.0) stop)
-  stops before after Applications Programmes rose (n, held) stop = absurd (no_stop n Programmes (held.0, held.1) stop)
-  stops before after Applications Applications rose accepted stop = inr (inr rose)
-  stops before after Applications Results rose accepted stop = inr (inr (inl rose))
-  stops before after Applications Amendments rose accepted stop = inr (inr (inl rose))
-  stops before after Results Pools rose (n, held) stop = absurd (no_stop n Pools (tt, held.0) stop)
-  stops before after Results Programmes rose (n, held) stop = absurd (no_stop n Programmes (held.0, held.1) stop)
-  stops before after Results Applications rose (n, held) stop = absurd (no_stop n Applications ((held.0, held.1), held.2) stop)
-  stops before after Results Results rose accepted stop = inr (inr (inr rose))
-  stops before after Results Amendments rose accepted stop = inr (inr (inr (inl rose)))
-  stops before after Amendments Pools rose (n, held) stop = absurd (no_stop n Pools (tt, held.0.0) stop)
-  stops before after Amendments Programmes rose (n, held) stop = absurd (no_stop n Programmes (held.0.0, held.0.1) stop)
-  stops before after Amendments Applications rose (n, held) stop = absurd (no_stop n Applications ((held.0.0, held.0.1), held.0.2) stop)
-  stops before after Amendments Results rose (n, held) stop = absurd (no_stop n Results (held.0, held.1) stop)
-  stops before after Amendments Amendments rose accepted stop = inr (inr (inr (inr rose)))
+-- the same of a command, each of which reads its tables first
+no_stop : (shelf : Files) (command : Command) (n : NamedMarket) (k : ℕ) (file : File) → StandsAt (inputs_of command) k file
+    → Hold shelf (inputs_of command).rule n (take k (inputs_of command).files) → HoldsFor shelf (inputs_of command).rule n file
+    → IsStop shelf (inputs_of command).rule (take k (inputs_of command).files) file → ⊥
+no_stop shelf (clear t) n k file at before here stop = not_stop shelf t [] n k file at before here stop
+no_stop shelf (check t document) n k file at before here stop = not_stop shelf t (file_of Results document ∷ []) n k file at before here stop
 
--- where all files of a command are accepted, so is each of them
-all_held : (contents : Contents) (command : Command) (n : NamedMarket) (table : Table) → HasTable command table → AreAccepted contents command n → HoldUpTo contents (inputs_of command) n table
-all_held contents (clear l p g a) n Pools has held = (tt, held.0.0)
-all_held contents (clear l p g a) n Programmes has held = (held.0.0, held.0.1)
-all_held contents (clear l p g a) n Applications has held = held
-all_held contents (clear l p g a) n Results has held = absurd has
-all_held contents (clear l p g a) n Amendments has held = absurd has
-all_held contents (check l p g a d) n Pools has held = (tt, held.0.0)
-all_held contents (check l p g a d) n Programmes has held = (held.0.0, held.0.1)
-all_held contents (check l p g a d) n Applications has held = ((held.0.0, held.0.1), held.0.2)
-all_held contents (check l p g a d) n Results has held = held
-all_held contents (check l p g a d) n Amendments has held = absurd has
+-- where all files of a command are accepted, none is the first that isn't
+none_stops : (shelf : Files) (command : Command) (n : NamedMarket) (k : ℕ) (file : File) → StandsAt (inputs_of command) k file
+    → AreAccepted shelf (inputs_of command) n → IsStop shelf (inputs_of command).rule (take k (inputs_of command).files) file → ⊥
+none_stops shelf command n k file at held stop =
+    let P = HoldsFor shelf (inputs_of command).rule n in
+    no_stop shelf command n k file at (All-take P k (inputs_of command).files held) (all_at P P (inputs_of command).files k file at held) stop
 
 -- where the first file that isn't accepted stands, a failure has status 3 or 6, or a count rose on the way
-failure_at : (contents : Contents) (command : Command) (before after : FaultCounts) (failure : Failure) (table : Table) → HasTable command table → IsCause true contents command before after failure
-    → IsStop contents (inputs_of command) table → (status_of failure ≡ 3) ⊎ (status_of failure ≡ 6) ⊎ RoseUpTo before after (inputs_of command) table
-failure_at contents command before after Words table has cause stop = absurd cause
-failure_at contents command before after (Refused fault) table has cause stop = inl refl
-failure_at contents command before after (TooLong p) table has cause stop = inl refl
-failure_at contents command before after (Unreadable p) table has cause stop = inr (inr (stops contents (inputs_of command) before after p table cause.1 (cause.2 refl) stop))
-failure_at contents command before after Unwritable table has cause stop =
-    let read = cause refl in absurd (no_stop contents (inputs_of command) read.0 table (all_held contents command read.0 table has read.1) stop)
-failure_at contents command before after OutOfMemory table has cause stop = inr (inl refl)
-
-rose_somewhere : (command : Command) (before after : FaultCounts) (table : Table) → HasTable command table → RoseAt before after (inputs_of command) table → RoseUpTo before after (inputs_of command) (last_table command)
-rose_somewhere (clear l p g a) before after Pools has rose = inl rose
-rose_somewhere (clear l p g a) before after Programmes has rose = inr (inl rose)
-rose_somewhere (clear l p g a) before after Applications has rose = inr (inr rose)
-rose_somewhere (clear l p g a) before after Results has rose = absurd has
-rose_somewhere (clear l p g a) before after Amendments has rose = absurd has
-rose_somewhere (check l p g a d) before after Pools has rose = inl rose
-rose_somewhere (check l p g a d) before after Programmes has rose = inr (inl rose)
-rose_somewhere (check l p g a d) before after Applications has rose = inr (inr (inl rose))
-rose_somewhere (check l p g a d) before after Results has rose = inr (inr (inr rose))
-rose_somewhere (check l p g a d) before after Amendments has rose = absurd has
+failure_at : (command : Command) (before after : Files) → IsTold before → (failure : Failure) (k : ℕ) (file : File) → StandsAt (inputs_of command) k file
+    → IsCause (inputs_of command) before after failure → IsStop before (inputs_of command).rule (take k (inputs_of command).files) file
+    → (status_of failure ≡ 3) ⊎ (status_of failure ≡ 6) ⊎ RoseUpTo before after (take k (inputs_of command).files) file
+failure_at command before after told Words k file at cause stop = absurd cause
+failure_at command before after told (Refused fault) k file at cause stop = inl refl
+failure_at command before after told (TooLong table) k file at cause stop = inl refl
+failure_at command before after told (Unreadable table) k file at (j, other, at', (same, rose, held)) stop =
+    let (n, earlier) = held told in
+    inr (inr (up_to_stop (RoseOf before after) (HoldsFor before (inputs_of command).rule n) (inputs_of command).files j k other file at' at rose earlier
+    (λ before_it here. no_stop before command n k file at before_it here stop)))
+failure_at command before after told Unwritable k file at cause stop =
+    let read = cause told in absurd (none_stops before command read.0 k file at read.1 stop)
+failure_at command before after told OutOfMemory k file at cause stop = inr (inl refl)
 
 -- where all files are accepted, a failure has status 6, or a count rose
-failure_after : (contents : Contents) (command : Command) (before after : FaultCounts) (out_before out_after : ℕ) (n : NamedMarket) (failure : Failure) → IsCause true contents command before after failure
-    → (failure ≡ Unwritable → Rose out_before out_after) → AreAccepted contents command n
-    → (status_of failure ≡ 6) ⊎ RoseUpTo before after (inputs_of command) (last_table command) ⊎ Rose out_before out_after
-failure_after contents command before after out_before out_after n Words cause output held = absurd cause
-failure_after contents command before after out_before out_after n (Refused fault) (table, has, of) output held =
-    absurd (no_stop contents (inputs_of command) n table (all_held contents command n table has held) (inl (fault, of refl)))
-failure_after contents command before after out_before out_after n (TooLong table) cause output held =
-    absurd (no_stop contents (inputs_of command) n table (all_held contents command n table cause.0 held) (inr (cause.1 refl)))
-failure_after contents command before after out_before out_after n (Unreadable table) cause output held = inr (inl (rose_somewhere command before after table cause.0 cause.1))
-failure_after contents command before after out_before out_after n Unwritable cause output held = inr (inr (output refl))
-failure_after contents command before after out_before out_after n OutOfMemory cause output held = inl refl
+failure_after : (command : Command) (before after : Files) (out_before out_after : Output) → IsTold before → (n : NamedMarket) (failure : Failure)
+    → IsCause (inputs_of command) before after failure → (status_of failure ≡ 5 → RoseIn out_before out_after) → AreAccepted before (inputs_of command) n
+    → (status_of failure ≡ 6) ⊎ Any (RoseOf before after) (inputs_of command).files ⊎ RoseIn out_before out_after
+failure_after command before after out_before out_after told n Words cause output held = absurd cause
+failure_after command before after out_before out_after told n (Refused fault) (k, file, at, of) output held =
+    absurd (none_stops before command n k file at held (inl (fault, of told)))
+failure_after command before after out_before out_after told n (TooLong table) (k, file, at, (same, of)) output held =
+    absurd (none_stops before command n k file at held (inr (of told)))
+failure_after command before after out_before out_after told n (Unreadable table) (k, file, at, (same, rose, earlier)) output held =
+    inr (inl (any_at (RoseOf before after) (RoseOf before after) (inputs_of command).files k file at rose))
+failure_after command before after out_before out_after told n Unwritable cause output held = inr (inr (output refl))
+failure_after command before after out_before out_after told n OutOfMemory cause output held = inl refl
 
--- a command that was carried out had its files accepted
-accepted_by : (contents : Contents) (command : Command) (status : ℕ) (IsWritten : List ℕ → Type 0) → IsCarriedOut contents command status IsWritten → (n : NamedMarket) × AreAccepted contents command n
-accepted_by contents (clear l p g a) status IsWritten done = let h = done.1.held in (done.1.n, ((h.0, h.1), h.2))
-accepted_by contents (check l p g a d) status IsWritten done =
-    let j = done.judged in
-    let (text, told, few, right) = j.read in
-    (done.n, (j.held, (text, told, few, (right.0, tt))))
+module _ (words : List (List ℕ)) (before after : Files) where
+  -- files of a command that was carried out
+  pub none_refused : (out_before out_after : Output) (HasEnding : Ending → Type 0) (status : ℕ) → CarriesOut words before out_before out_after HasEnding → Refuses words before after status
+  none_refused out_before out_after HasEnding status carried told command e k file at stop =
+      let (own, is, done) = carried told in
+      let same = one_command words own command is e in
+      let held = subst (λ (d : Command). AreAccepted before (inputs_of d) done.n) same done.held in
+      absurd (none_stops before command done.n k file at held stop)
 
--- files of a command that was carried out
-pub none_refused : (words : List (List ℕ)) (contents : Contents) (before after : FaultCounts) (status : ℕ) (IsWritten : List ℕ → Type 0) → CarriesOut contents words status IsWritten → Refuses words contents before after status
-none_refused words contents before after status IsWritten (command, own, done) other table e has stop =
-    let same = same_command command other (sym own ∙ e) in
-    let (n, held) = accepted_by contents command status IsWritten done in
-    absurd (no_stop contents (inputs_of other) n table (all_held contents other n table has (subst (λ (d : Command). AreAccepted contents d n) same held)) stop)
+  pub refuses : (failure : Failure) → IsCauseOf words before after failure → Refuses words before after (status_of failure)
+  refuses failure (inl (is, none)) told command e k file at stop = let no : None ≡ Some command = sym none ∙ e in cc no
+  refuses failure (inr (own, is, cause)) told command e k file at stop =
+      let same = one_command words own command is e in
+      failure_at command before after told failure k file at (subst (λ (d : Command). IsCause (inputs_of d) before after failure) same cause) stop
 
-pub refuses : (words : List (List ℕ)) (tells : Bool) (contents : Contents) (before after : FaultCounts) (failure : Failure) → tells ≡ true → IsCauseOf words tells contents before after failure → Refuses words contents before after (status_of failure)
-refuses words tells contents before after failure t (inl (is, none)) command table e has stop = absurd (none (command, e))
-refuses words tells contents before after failure t (inr (own, is, cause)) command table e has stop =
-    let same = same_command own command (sym is ∙ e) in
-    let known = subst (λ (b : Bool). IsCause b contents own before after failure) t cause in
-    failure_at contents command before after failure table has (subst (λ (d : Command). IsCause true contents d before after failure) same known) stop
+  pub completes : (out_before out_after : Output) (failure : Failure) → IsCauseOf words before after failure
+      → (status_of failure ≡ 5 → RoseIn out_before out_after) → Completes words before after out_before out_after (status_of failure)
+  completes out_before out_after failure (inl (is, none)) output told command e faultless = let no : None ≡ Some command = sym none ∙ e in cc no
+  completes out_before out_after failure (inr (own, is, cause)) output told command e faultless =
+      let same = one_command words own command is e in
+      let (n, held) = accepted_of before command faultless in
+      inr (failure_after command before after out_before out_after told n failure (subst (λ (d : Command). IsCause (inputs_of d) before after failure) same cause) output held)
 
-pub completes : (words : List (List ℕ)) (tells : Bool) (contents : Contents) (before after : FaultCounts) (out_before out_after : ℕ) (failure : Failure) → tells ≡ true → IsCauseOf words tells contents before after failure
-    → (failure ≡ Unwritable → Rose out_before out_after) → Completes words contents before after out_before out_after (status_of failure)
-completes words tells contents before after out_before out_after failure t (inl (is, none)) output command n e held = absurd (none (command, e))
-completes words tells contents before after out_before out_after failure t (inr (own, is, cause)) output command n e held =
-    let same = same_command own command (sym is ∙ e) in
-    let known = subst (λ (b : Bool). IsCause b contents own before after failure) t cause in
-    inr (failure_after contents command before after out_before out_after n failure (subst (λ (d : Command). IsCause true contents d before after failure) same known) output held)
+  pub completed : (out_before out_after : Output) (status : ℕ) → EndQuietly words status → Completes words before after out_before out_after status
+  completed out_before out_after status (own, is, (m, verdict, ends)) told command e faultless =
+      let same = one_command words own command is e in
+      inl (m, verdict, subst (λ (d : Command). status ≡ (ending_of d m verdict).status) same (ap (λ (x : Ending). x.status) (sym ends)))
 
--- a status of 0, or of 1 for a check
-done_by : (words : List (List ℕ)) (command : Command) (status : ℕ) → (status ≡ 0) ⊎ ((status ≡ 1) × IsCheck words) → words ≡ words_of command → IsDone command status
-done_by words (clear l p g a) status (inl zero) e = zero
-done_by words (clear l p g a) status (inr (one, (l', p', g', a', d', is))) e = absurd (word_differs _ _ 0 (codes "clear") refl refl (sym e ∙ is))
-done_by words (check l p g a d) status (inl zero) e = inl zero
-done_by words (check l p g a d) status (inr (one, is)) e = inr one
+  -- a command that was carried out ended as one
+  pub ended : (status : ℕ) (err : Output) → EndQuietly words status → Ends words before after err err status
+  ended status err (command, is, (n, verdict, ends)) =
+      inl (command, n, verdict, is, subst (EndsWith status err err) (sym ends) (refl, refl))
 
-pub completed : (words : List (List ℕ)) (contents : Contents) (before after : FaultCounts) (out_before out_after status : ℕ) → (status ≡ 0) ⊎ ((status ≡ 1) × IsCheck words) → Completes words contents before after out_before out_after status
-completed words contents before after out_before out_after status done command n e held = inl (done_by words command status done e)
+zero_or_one : (verdict : Verdict) → (status_of_verdict verdict ≡ 0) ⊎ (status_of_verdict verdict ≡ 1)
+zero_or_one Yes = inl refl
+zero_or_one verdict = inr refl
+
+-- nothing was put for people where nothing was to be
+pub quiet_end : (shelf : Files) (command : Command) (IsPut : List ℕ → Type 0) (status : ℕ) (err : Output) → IsCarriedOut shelf command IsPut (IsQuiet status)
+    → IsCarriedOut shelf command IsPut (EndsWith status err err)
+quiet_end shelf command IsPut status err d = record {
+  n = d.n;
+  held = d.held;
+  verdict = d.verdict;
+  text = d.text;
+  comes = d.comes;
+  put = d.put;
+  ends = subst (EndsWith status err err) (sym d.ends) (refl, refl);
+}
+
+-- with status 0, or with status 1 where it is a check
+pub low_status : (words : List (List ℕ)) (status : ℕ) → EndQuietly words status → (status ≡ 0) ⊎ ((status ≡ 1) × IsCheck words)
+low_status words status (clear t, is, (n, verdict, ends)) = inl (sym (ap (λ (x : Ending). x.status) ends))
+low_status words status (check t document, is, (n, verdict, ends)) = elim (zero_or_one verdict) [
+  | inl zero ↦ inl (sym (ap (λ (x : Ending). x.status) ends) ∙ zero)
+  | inr one ↦ inr (sym (ap (λ (x : Ending). x.status) ends) ∙ one, (t, document, is))
+]
 
 -- a failure has status 2 exactly where the words are those of no command
 other_status : (failure : Failure) → (failure ≡ Words → ⊥) → status_of failure ≡ 2 → ⊥
 other_status Words other e = other refl
-other_status (Refused fault) other e = omega (arith, e)
-other_status (TooLong table) other e = omega (arith, e)
-other_status (Unreadable table) other e = omega (arith, e)
-other_status Unwritable other e = omega (arith, e)
-other_status OutOfMemory other e = omega (arith, e)
+other_status failure other e = omega (arith, e)
 
-no_words : (tells : Bool) (contents : Contents) (command : Command) (before after : FaultCounts) (failure : Failure) → IsCause tells contents command before after failure → failure ≡ Words → ⊥
-no_words tells contents command before after failure cause e = subst (λ (f : Failure). IsCause tells contents command before after f) e cause
+pub no_words : {T : Type 0} (command : Command) (before after : Files) (r : Result T Failure) → IfErr r (IsCause (inputs_of command) before after) → IsErrOf r Words → ⊥
+no_words command before after (Ok x) cause failed = cc failed
+no_words command before after (Err failure) cause failed =
+    let e : Err failure ≡ Err Words = failed in let is : failure ≡ Words = cc in subst (λ (x : Failure). IsCause (inputs_of command) before after x) is cause
 
-pub words_decide : (words : List (List ℕ)) (tells : Bool) (contents : Contents) (before after : FaultCounts) (failure : Failure) → IsCauseOf words tells contents before after failure → (status_of failure ≡ 2) ↔ AreNoCommand words
-words_decide words tells contents before after failure (inl (is, none)) = (λ e. none, λ no. ap status_of is)
-words_decide words tells contents before after failure (inr (own, is, cause)) =
-    (λ e. absurd (other_status failure (no_words tells contents own before after failure cause) e), λ no. absurd (no (own, is)))
+pub words_decide : (words : List (List ℕ)) (before after : Files) (failure : Failure) → IsCauseOf words before after failure → (status_of failure ≡ 2) ↔ AreNoCommand words
+words_decide words before after failure (inl (is, none)) = (λ e. none, λ no. ap status_of is)
+words_decide words before after failure (inr (own, is, cause)) = (
+  λ e. absurd (other_status failure (λ f. subst (λ (x : Failure). IsCause (inputs_of own) before after x) f cause) e),
+  λ no. let none : None ≡ Some own = sym no ∙ is in cc none,
+)

@@ -1,7 +1,8 @@
 pub mod Raising
-pub mod Commands
 pub mod Ranges
+pub mod Places
 pub mod Accepting
+pub mod Faultless
 pub mod Ending
 pub mod Lines
 pub mod Writing

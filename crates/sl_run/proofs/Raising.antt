@@ -1,5 +1,5 @@
 -- Raises one by one: the greatest of a pool, and what a list of raises reaches with one more.
-use Rattle.std.proofs.Common.{◌≡◌, ◌<◌, ◌≤◌, ◌+◌, ◌-◌, ◌∙◌, ℕ, List, [], ◌∷◌, ◌++◌, length, set, max, refl, sym, ap, arith, subst, zero, suc, inl, inr, slice_index, length-set, replicate, position, None, true≢false}
+use Rattle.std.proofs.Common.{◌≡◌, ◌<◌, ◌≤◌, ◌+◌, ◌-◌, ◌∙◌, ℕ, List, [], ◌∷◌, ◌++◌, length, set, max, refl, sym, ap, arith, subst, zero, suc, inl, inr, slice_index, length-set, replicate, true≢false}
 use Rattle.std.proofs.lemmas.Bool.{cases_lt, and_parts, eq-eqb}
 use Rattle.std.proofs.lemmas.Bool.Decides.{eqb_tells}
 use Rattle.std.specs.List.{list_any}
@@ -11,7 +11,7 @@ use Rattle.sl_types.specs.Market.{Market, no_pool, pool_at}
 use Rattle.std.specs.Prelude.{◌≢◌, Bool, true, false, ◌&&◌, ◌||◌, not, nat_eq, is_some}
 use Rattle.sl_types.proofs.Lists.{none_fails}
 use Rattle.sl_types.specs.Rules.{is_merit}
-use Rattle.sl_types.specs.Stage.{is_in_tree}
+use Rattle.sl_types.specs.Stage.{StandAlone, is_in_tree}
 use Rattle.sl_types.specs.WellFormed.{IsWellFormed}
 use Rattle.sl_laws.specs.Limits.{Limits, with_limit, effective_limit}
 use Rattle.sl_laws.specs.Stable.{IsJustified, IsSettled, Feeds, feeds, leads}
@@ -21,9 +21,9 @@ use Rattle.sl_laws.proofs.Nest.{le_limit, lies_own, with_else}
 use Rattle.sl_laws.proofs.Slices.{set_replaces, same_limits}
 use Rattle.sl_laws.proofs.Top.{justified_has_top}
 use Rattle.sl_contend.specs.Rule.{IsBest}
-use Rattle.sl_proof.proofs.Adding.{reached_push, each_push}
+use Rattle.sl_laws.proofs.Ends.{after_raises-push, EachRaise-push}
 use Rattle.sl_check.specs.Verdict.{AreSettled}
-use Rattle.sl_run.specs.Clearing.{AreFresh, AreScorePools, is_stale, IsGreatestRaise, IsUnderWay, room}
+use Rattle.sl_run.specs.Clearing.{AreFresh, AreScorePools, is_stale, IsGreatestRaise, LeadTo, room}
 
 -- the best raise of a pool that is above its effective limit is its greatest
 pub greatest : (market : Market) (t : Limits) (P best : ℕ) → IsBest market t P best → effective_limit market t P < best → IsGreatestRaise market t P best
@@ -41,7 +41,7 @@ pub settled_by : (market : Market) (t : Limits) (P best : ℕ) → IsBest market
 settled_by market t P best is low just = let high = is.greatest (effective_limit market t P + 1) (omega arith) just in omega (arith, low, high)
 
 -- pools of which none is in a tree are score pools
-pub alone_is_score : (market : Market) → position is_in_tree market.pools ≡ None → AreScorePools market
+pub alone_is_score : (market : Market) → StandAlone market.pools → AreScorePools market
 alone_is_score market none P within merit =
     let pool = pool_at market P in
     let no : (is_some pool.parent || is_merit pool.rule) ≡ false = none_fails is_in_tree market.pools none P no_pool within in
@@ -53,8 +53,8 @@ alone_is_score market none P within merit =
     second true b h = absurd (true≢false h)
 
 -- the greatest raise of a pool goes on from where the raises were
-pub one_raise_more : (market : Market) (limits new_limits : List ℕ) (raises new_raises : List Raise) (r : Raise) → IsUnderWay market limits raises → r.pool.0 < length market.pools
-    → IsGreatestRaise market (slice_index limits) r.pool.0 r.limit → new_limits ≡ set limits r.pool.0 r.limit → new_raises ≡ raises ++ r ∷ [] → IsUnderWay market new_limits new_raises
+pub one_raise_more : (market : Market) (limits new_limits : List ℕ) (raises new_raises : List Raise) (r : Raise) → LeadTo market limits raises → r.pool.0 < length market.pools
+    → IsGreatestRaise market (slice_index limits) r.pool.0 r.limit → new_limits ≡ set limits r.pool.0 r.limit → new_raises ≡ raises ++ r ∷ [] → LeadTo market new_limits new_raises
 one_raise_more market limits new_limits raises new_raises r h within best le re =
     let P = r.pool.0 in
     let x = r.limit in
@@ -67,8 +67,8 @@ one_raise_more market limits new_limits raises new_raises r h within best le re 
     let inside : P < length limits = omega (arith, within, sizes) in
     rw (le, re) (record {
       each = length-set limits P x ∙ h.each;
-      replays = each_push market _ zeros raises r h.replays within fair;
-      reach = λ Q. set_replaces limits P x inside Q ∙ ap (λ (t : Limits). with_limit t P x Q) same ∙ ap (λ (m : ℕ). with_limit (limits_after raises) P m Q) top ∙ sym (ap (λ (t : Limits). t Q) (reached_push zeros raises r));
+      replays = EachRaise-push market _ zeros raises r h.replays within fair;
+      reach = λ Q. set_replaces limits P x inside Q ∙ ap (λ (t : Limits). with_limit t P x Q) same ∙ ap (λ (m : ℕ). with_limit (limits_after raises) P m Q) top ∙ sym (ap (λ (t : Limits). t Q) (after_raises-push zeros raises r));
     })
 
 pub room_falls : (market : Market) → IsWellFormed market → (limits new_limits : List ℕ) (P x : ℕ) → P < length market.pools → length limits ≡ length market.pools → IsGreatestRaise market (slice_index limits) P x → new_limits ≡ set limits P x → room new_limits < room limits
@@ -80,14 +80,14 @@ room_falls market ok limits new_limits P x within sizes best le =
     rw le (omega (arith, sum, top, own, above))
 
 -- the raises of a clearing that has ended prove the effective limits
-pub ended : (market : Market) (limits published : List ℕ) (raises : List Raise) → IsUnderWay market limits raises → AreSettled market (slice_index limits)
+pub ended : (market : Market) (limits published : List ℕ) (raises : List Raise) → LeadTo market limits raises → AreSettled market (slice_index limits)
     → ((P : ℕ) → P < length market.pools → slice_index published P ≡ effective_limit market (slice_index limits) P) → Proves market raises (slice_index published)
 ended market limits published raises h settled is =
     let same : slice_index limits ≡ limits_after raises = same_limits (slice_index limits) (limits_after raises) h.reach in
     (h.replays, λ P within. (subst (λ (t : Limits). IsSettled market t P) same (settled P within), sym (is P within ∙ ap (λ (t : Limits). effective_limit market t P) same)))
 
 -- before the first raise
-pub at_zeros : (market : Market) (limits : List ℕ) (raises : List Raise) (n : ℕ) → limits ≡ replicate n 0 → n ≡ length market.pools → raises ≡ [] → IsUnderWay market limits raises
+pub at_zeros : (market : Market) (limits : List ℕ) (raises : List Raise) (n : ℕ) → limits ≡ replicate n 0 → n ≡ length market.pools → raises ≡ [] → LeadTo market limits raises
 at_zeros market limits raises n le ne re = rw (le, re) (record {
   each = length-replicate n 0 ∙ ne;
   replays = tt;

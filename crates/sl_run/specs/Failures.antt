@@ -18,7 +18,8 @@ status_of OutOfMemory = 6
 -- a refused file has its table, the number of the record and what is wrong with it
 abbrev pub line_of : Failure → List ℕ
 line_of Words = codes "scorelimits: the words are not a command form\n"
-line_of (Refused fault) = table_word fault.table ++ codes ":" ++ decimal fault.at ++ codes ": " ++ cause_name fault.cause ++ codes "\n"
+line_of (Refused fault) =
+    table_word fault.table ++ codes ":" ++ decimal fault.at ++ codes ": " ++ cause_name fault.cause ++ codes "\n"
 line_of (TooLong table) = table_word table ++ codes ": longer than 268435456 bytes\n"
 line_of (Unreadable table) = table_word table ++ codes ": cannot be read\n"
 line_of Unwritable = codes "output: cannot be written\n"

@@ -3,7 +3,7 @@ pub mod Accepted
 pub mod Failures
 pub mod Causes
 pub mod Fetching
-pub mod Reports
+pub mod Ending
 pub mod Clearing
 pub mod Result
 pub mod Run

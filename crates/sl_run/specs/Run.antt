@@ -1,87 +1,123 @@
 -- What a command does, from the files that it names to the text that it writes.
-use Rattle.std.specs.Prelude.{◌≡◌, ◌⊎◌, ℕ, Bool, true, false, List, Option, None}
+use Rattle.std.specs.Prelude.{◌≡◌, ◌⊎◌, ⊤, ℕ, Bool, true, false, List, []}
+use Rattle.sl_io.specs.Shelf.{Files}
+use Rattle.sl_io.specs.Sink.{Output, Takes, TakesPart, RoseIn}
 use Rattle.sl_check.specs.declared.verdict.Verdict.{Verdict}
-use Rattle.sl_check.specs.declared.verdict.Verdict.TheVariants.{Yes, RaiseUnjust, Unsettled, LimitWrong, AdmissionWrong, CountWrong}
 use Rattle.sl_check.specs.Verdict.{IsVerdict}
-use Rattle.sl_codes.specs.Records.{records_of, rows_of}
-use Rattle.sl_codes.specs.declared.faults.Table.TheVariants.{Results}
+use Rattle.sl_types.specs.declared.kinds.Rule.{Rule}
 use Rattle.sl_types.specs.Valid.{IsValid}
 use Rattle.sl_instance.specs.NamedMarket.{NamedMarket, IsNamed}
+use Rattle.sl_codes.specs.RecordText.{text_of_record}
 use Rattle.sl_doc.specs.Document.{Document}
-use Rattle.sl_doc.specs.Reading.{doc_fault, document_of}
-use Rattle.sl_doc.specs.ResultText.{text_of_record, result_text}
+use Rattle.sl_doc.specs.ResultText.{result_text}
 use Rattle.sl_doc.specs.VerdictText.{verdict_record}
 use Rattle.sl_run.specs.declared.failure.Failure.{Failure}
-use Rattle.sl_run.specs.declared.failure.Failure.TheVariants.{Words, Refused, TooLong, Unreadable, Unwritable, OutOfMemory}
+use Rattle.sl_run.specs.declared.failure.Failure.TheVariants.{Words, Unwritable, OutOfMemory}
 use Rattle.sl_run.specs.Result.{IsResultOf}
-use Rattle.sl_run.specs.Words.{Command, clear, check, Inputs, words_of, inputs_of}
-use Rattle.sl_run.specs.Accepted.{Contents, Holds, HoldTables}
-use Rattle.sl_run.specs.Failures.{status_of, line_of}
-use Rattle.sl_run.specs.Reports.{Reports}
+use Rattle.sl_run.specs.Words.{TableNames, Command, clear, check, inputs_of, letter_rule, tables_and, AreWordsOf}
+use Rattle.sl_run.specs.Accepted.{IsTold, Holds, Hold, AreAccepted, AreHeld}
+use Rattle.sl_run.specs.Fetching.{GivesDocument}
+use Rattle.sl_run.specs.Causes.{IsCauseOf, AreFaultless}
+use Rattle.sl_run.specs.Ending.{Ending, ending_of, failed, EndsWith, IsQuiet, IsDoneQuietly}
 
--- the files hold the tables of a valid instance, each of whose pools, programmes and applicants has a code of its own, and
--- the text of its result was written
-pub record IsCleared (contents : Contents) (inputs : Inputs) (IsWritten : List ℕ → Type 0) : Type 0 where
-  pub n : NamedMarket
-  pub held : HoldTables contents inputs n
+-- an instance is valid, each of its pools, programmes and applicants has a code of its own, and a document is its
+-- result
+pub record IsCleared (n : NamedMarket) (doc : Document) : Type 0 where
   pub valid : IsValid n.market
   pub named : IsNamed n
-  pub doc : Document
   pub result : IsResultOf n.market doc
-  pub written : IsWritten (result_text n inputs.rule doc)
 
--- they hold the tables of this instance and a document of it, on which this is the verdict
-pub record IsJudged (contents : Contents) (inputs : Inputs) (n : NamedMarket) (verdict : Verdict) : Type 0 where
-  pub held : HoldTables contents inputs n
+-- such an instance, and a file that holds a document of it, on which this is the verdict
+pub record IsJudged (shelf : Files) (rule : Rule) (document : List ℕ) (n : NamedMarket) (verdict : Verdict)
+    : Type 0 where
   pub valid : IsValid n.market
   pub named : IsNamed n
   pub doc : Document
-  pub read : Holds contents (inputs.names Results) (λ text. (doc_fault n inputs.rule (records_of text) ≡ None) × (doc ≡ document_of n (rows_of text)))
+  pub read : Holds shelf document (GivesDocument n rule doc)
   pub right : IsVerdict n.market doc.raises doc.limits doc.admitted doc.counts verdict
 
--- 0 for Yes, 1 for each other verdict
-abbrev pub status_of_verdict : Verdict → ℕ
-status_of_verdict Yes = 0
-status_of_verdict (RaiseUnjust k) = 1
-status_of_verdict (Unsettled P) = 1
-status_of_verdict (LimitWrong P) = 1
-status_of_verdict (AdmissionWrong a) = 1
-status_of_verdict (CountWrong P) = 1
+-- what a command comes to over the instance of its tables: its verdict, and the text that it writes
+abbrev pub ComesTo : Files → Command → NamedMarket → Verdict → List ℕ → Type 0
+ComesTo shelf (clear tables) n verdict text =
+    (doc : Document) × IsCleared n doc × (text ≡ result_text n (letter_rule tables.letter) doc)
+ComesTo shelf (check tables document) n verdict text =
+    IsJudged shelf (letter_rule tables.letter) document n verdict
+    × (text ≡ text_of_record (verdict_record n verdict))
 
--- the verdict on a document of an instance was written, and the status goes with it
-pub record IsChecked (contents : Contents) (inputs : Inputs) (status : ℕ) (IsWritten : List ℕ → Type 0) : Type 0 where
+-- a command was carried out: its files are accepted as those of an instance, its text was put, and it ended as its
+-- verdict asks
+pub record IsCarriedOut (shelf : Files) (command : Command) (IsPut : List ℕ → Type 0) (HasEnding : Ending → Type 0)
+    : Type 0 where
   pub n : NamedMarket
+  pub held : AreAccepted shelf (inputs_of command) n
   pub verdict : Verdict
-  pub judged : IsJudged contents inputs n verdict
-  pub ends : status ≡ status_of_verdict verdict
-  pub written : IsWritten (text_of_record (verdict_record n verdict))
+  pub text : List ℕ
+  pub comes : ComesTo shelf command n verdict text
+  pub put : IsPut text
+  pub ends : HasEnding (ending_of command n verdict)
 
--- what a command that was carried out did, by its status
-abbrev pub IsCarriedOut : Contents → Command → ℕ → (List ℕ → Type 0) → Type 0
-IsCarriedOut contents (clear letter pools programmes applications) status IsWritten =
-    (status ≡ 0) × IsCleared contents (inputs_of (clear letter pools programmes applications)) IsWritten
-IsCarriedOut contents (check letter pools programmes applications document) status IsWritten =
-    IsChecked contents (inputs_of (check letter pools programmes applications document)) status IsWritten
+-- it was, where the files are told, with nothing for people
+abbrev pub Performs : Files → Command → Output → Output → ℕ → Type 0
+Performs shelf command before after status =
+    IsTold shelf → IsCarriedOut shelf command (Takes before after) (IsQuiet status)
 
--- the words are those of a command, and it was carried out
-abbrev pub CarriesOut : Contents → List (List ℕ) → ℕ → (List ℕ → Type 0) → Type 0
-CarriesOut contents words status IsWritten = (command : Command) × (words ≡ words_of command) × IsCarriedOut contents command status IsWritten
+-- it was broken off: a part of its text was put, however it would have ended
+abbrev pub PerformsPart : Files → Command → Output → Output → Type 0
+PerformsPart shelf command before after =
+    IsTold shelf → IsCarriedOut shelf command (TakesPart before after) (λ ending. ⊤)
+
+-- what a failure leaves of the output: a part of the text where the output failed, that or nothing new where memory
+-- ran out, and else nothing new
+abbrev pub Leaves : Type 0 → Type 0 → Output → Output → Failure → Type 0
+Leaves Same Part before after Unwritable = RoseIn before after × Part
+Leaves Same Part before after OutOfMemory = Same ⊎ Part
+Leaves Same Part before after failure = Same
+
+abbrev pub LeavesOf : Files → Command → Type 0 → Output → Output → Failure → Type 0
+LeavesOf shelf command Same before after = Leaves Same (PerformsPart shelf command before after) before after
 
 -- whether a failure can come of the files that a command names, or of memory
 abbrev pub is_of_files : Failure → Bool
 is_of_files Words = false
-is_of_files (Refused fault) = true
-is_of_files (TooLong table) = true
-is_of_files (Unreadable table) = true
 is_of_files Unwritable = false
-is_of_files OutOfMemory = true
+is_of_files failure = true
 
--- a status is 0 or 1 and no line was put, or it is that of a failure with its cause, whose line was put
-abbrev pub EndsBy : (Failure → Type 0) → ℕ → Option (List ℕ) → Option (List ℕ) → ℕ → ℕ → Type 0
-EndsBy HasCause status before after faults_before faults_after =
-    (((status ≡ 0) ⊎ (status ≡ 1)) × (after ≡ before))
-    ⊎ ((failure : Failure) × (status ≡ status_of failure) × HasCause failure × Reports before after faults_before faults_after (line_of failure))
+-- where the files are told, the words are those of a command, and it was carried out
+abbrev pub CarriesOut : List (List ℕ) → Files → Output → Output → (Ending → Type 0) → Type 0
+CarriesOut words shelf before after HasEnding =
+    IsTold shelf → (command : Command) × AreWordsOf words command
+    × IsCarriedOut shelf command (Takes before after) HasEnding
+
+-- where they are told, the words are those of a command, and it was broken off
+abbrev pub BreaksOff : List (List ℕ) → Files → Output → Output → Type 0
+BreaksOff words shelf before after =
+    IsTold shelf → (command : Command) × AreWordsOf words command × PerformsPart shelf command before after
+
+-- the words are those of a command that ends with this status, and with nothing for people
+abbrev pub EndQuietly : List (List ℕ) → ℕ → Type 0
+EndQuietly words status = (command : Command) × AreWordsOf words command × IsDoneQuietly command status
+
+-- the words are those of a command that ended as one does that was carried out, or it ended by a failure with its
+-- cause
+abbrev pub Ends : List (List ℕ) → Files → Files → Output → Output → ℕ → Type 0
+Ends words before after err_before err_after status =
+    ((command : Command) × (n : NamedMarket) × (verdict : Verdict) × AreWordsOf words command
+    × EndsWith status err_before err_after (ending_of command n verdict))
+    ⊎ ((failure : Failure) × IsCauseOf words before after failure
+    × EndsWith status err_before err_after (failed failure))
+
+-- the same over files of which nothing is told
+abbrev pub EndsUntold : List (List ℕ) → Output → Output → ℕ → Type 0
+EndsUntold words err_before err_after status =
+    (before : Files) × (after : Files) × (before.tells ≡ false)
+    × Ends words before after err_before err_after status
 
 -- files hold the tables of one instance at most, with one list of codes each
 abbrev pub TablesAreOne : Type 0
-TablesAreOne = (contents : Contents) (inputs : Inputs) (n n' : NamedMarket) → HoldTables contents inputs n → HoldTables contents inputs n' → n ≡ n'
+TablesAreOne = (shelf : Files) (rule : Rule) (tables : TableNames) (n n' : NamedMarket)
+    → Hold shelf rule n (tables_and tables []).files → Hold shelf rule n' (tables_and tables []).files → n ≡ n'
+
+-- three tables with nothing wrong in them are those of an instance
+abbrev pub TablesHaveInstance : Type 0
+TablesHaveInstance = (shelf : Files) (tables : TableNames)
+    → AreFaultless shelf (tables_and tables []) → AreHeld shelf (letter_rule tables.letter) (tables_and tables []).files

@@ -7,20 +7,20 @@ use sl_types::{Instance, PoolId, Rule};
 pub struct ByPool;
 
 impl RaiseRule for ByPool {
-    ghost use Rattle.std.specs.Prelude.{◌≢◌};
-    ghost use Rattle.sl_types.specs.Market.{rule_of};
-    ghost use Rattle.sl_types.specs.declared.kinds.Rule.TheVariants.{Merit};
-    ghost use Rattle.sl_contend.proofs.Lawful.{best_passes_none, best_stays_justified, best_is_local, covered_stays_settled};
+    ghost use Rattle.sl_laws.specs.Laws.{IsScorePool};
+    ghost use Rattle.sl_contend.proofs.Lawful.{raise_passes_none, raise_stays_justified, deciding_number, raise_is_local, pool_stays_settled};
 
-    ghost covers = { λ rule market P. rule_of market P ≢ Merit };
+    ghost covers = { λ rule. IsScorePool };
 
-    ghost passes_none = { λ rule. best_passes_none (λ market P. rule_of market P ≢ Merit) };
+    ghost passes_none = { λ rule. raise_passes_none IsScorePool };
 
-    ghost stays_justified = { λ rule. best_stays_justified (λ market P. rule_of market P ≢ Merit) };
+    ghost stays_justified = { λ rule. raise_stays_justified IsScorePool };
 
-    ghost is_local = { λ rule. best_is_local (λ market P. rule_of market P ≢ Merit) };
+    ghost deciding = { λ rule. deciding_number IsScorePool };
 
-    ghost stays_settled = { λ rule. covered_stays_settled (λ market P. rule_of market P ≢ Merit) };
+    ghost is_local = { λ rule. raise_is_local IsScorePool };
+
+    ghost stays_settled = { λ rule. pool_stays_settled IsScorePool };
 
     fn best(
         &self,

@@ -1,18 +1,16 @@
-ghost use Rattle.std.specs.Prelude.{◌≡◌, ◌⊎◌, ◌<◌, ◌^◌, ℕ, true, None, length, OnOk, IfOk, IfErr, IsErrOf};
-ghost use Rattle.std.specs.Io.KnownBytes.{Appends};
-ghost use Rattle.sl_io.specs.Count.{Rose};
-ghost use Rattle.sl_io.specs.Sink.{AppendsPart};
+ghost use Rattle.std.specs.Prelude.{◌≡◌, ◌<◌, ◌^◌, true, length, IfOk, IfErr};
+ghost use Rattle.sl_io.specs.Shelf.{KeepsFiles};
 ghost use Rattle.sl_check.specs.Verdict.{IsVerdict};
-ghost use Rattle.sl_codes.specs.Records.{records_of, rows_of};
 ghost use Rattle.sl_codes.specs.declared.faults.Table.TheVariants.{Results};
 ghost use Rattle.sl_doc.specs.Document.{IsInRange};
-ghost use Rattle.sl_doc.specs.Reading.{doc_fault, document_of};
 ghost use Rattle.sl_doc.specs.VerdictText.{NamesWithin};
 ghost use Rattle.sl_run.specs.Clearing.{AreScorePools};
-ghost use Rattle.sl_run.specs.Words.{check, inputs_of, letter_rule};
+ghost use Rattle.sl_run.specs.Words.{check, inputs_of, letter_rule, tables_in};
+ghost use Rattle.sl_run.specs.Accepted.{IsTold, AreReadAs, document_fault};
+ghost use Rattle.sl_run.specs.Fetching.{Reads, GivesDocument, IsFileCause};
 ghost use Rattle.sl_run.specs.Causes.{IsCause};
-ghost use Rattle.sl_run.specs.Fetching.{Reads, KeepsFiles, IsFileCause};
-ghost use Rattle.sl_run.specs.Run.{IsChecked, IsJudged, is_of_files, status_of_verdict};
+ghost use Rattle.sl_run.specs.Ending.{IsDoneQuietly, status_of_verdict};
+ghost use Rattle.sl_run.specs.Run.{IsJudged, Performs, LeavesOf, is_of_files};
 
 use crate::by_pool::ByPool;
 use crate::failure::Failure;
@@ -35,11 +33,13 @@ fn fetch_result<S: Shelf>(
     named: &Named,
     letter: Letter,
 ) -> Result<Doc, Failure>
-    ensures document { IfOk result (λ doc. Reads (S.tells shelf.old) (S.contents shelf.old) name.now (λ text. (doc_fault named.now (letter_rule letter) (records_of text) ≡ None) × (doc ≡ document_of named.now (rows_of text)))) }
+    ensures document { let gives = GivesDocument named.now (letter_rule letter) in
+        IfOk result (λ doc. Reads (S.files shelf.old) name.now (gives doc)) }
     ensures in_range { IfOk result (IsInRange named.now) }
     ensures few { IfOk result (λ doc. length doc.raises < 2 ^ 32) }
-    ensures keeps { KeepsFiles (S.tells shelf.old) (S.tells shelf.new) (S.contents shelf.old) (S.contents shelf.new) (S.faults shelf.old) (S.faults shelf.new) }
-    ensures cause { IfErr result (IsFileCause Results (S.tells shelf.old) (S.contents shelf.old) name.now (S.faults shelf.old name.now) (S.faults shelf.new name.now) (λ text. doc_fault named.now (letter_rule letter) (records_of text))) }
+    ensures cause { let first = document_fault named.now (letter_rule letter) in
+        IfErr result (IsFileCause Results first (S.files shelf.old) (S.files shelf.new) name.now) }
+    ensures keeps { KeepsFiles (S.files shelf.old) (S.files shelf.new) }
 {
     let bytes = fetch(alloc, shelf, Table::Results, name)?;
     match read_doc(alloc, &bytes, named, letter.rule()) {
@@ -53,7 +53,8 @@ fn verdict_on(alloc: Global, named: &Named, doc: &Doc) -> Result<Verdict, OutOfM
     requires in_range { IsInRange named.now doc.now }
     requires few { length doc.now.raises < 2 ^ 32 }
     requires alone { AreScorePools named.now.market }
-    ensures verdict { IfOk result (IsVerdict named.now.market doc.now.raises doc.now.limits doc.now.admitted doc.now.counts) }
+    ensures verdict { let d = doc.now in
+        IfOk result (IsVerdict named.now.market d.raises d.limits d.admitted d.counts) }
     ensures within { IfOk result (NamesWithin named.now) }
 {
     let instance = named.instance();
@@ -77,11 +78,16 @@ fn judge<S: Shelf>(
     document: &str,
     shelf: &mut S,
 ) -> Result<(Named, Verdict), Failure>
-    ensures judged { IfOk result (λ r. S.tells shelf.old ≡ true → IsJudged (S.contents shelf.old) (inputs_of (check tables.entry.letter tables.entry.pools.now tables.entry.programmes.now tables.entry.applications.now document.now)) r.0 r.1) }
+    ensures held { let inputs = inputs_of (check (tables_in tables.entry) document.now) in
+        IfOk result (λ r. AreReadAs (S.files shelf.old) inputs r.0) }
+    ensures judged { let rule = letter_rule tables.entry.letter in
+        let judged = IsJudged (S.files shelf.old) rule document.now in
+        IfOk result (λ r. IsTold (S.files shelf.old) → judged r.0 r.1) }
     ensures within { IfOk result (λ r. NamesWithin r.0 r.1) }
-    ensures cause { IfErr result (IsCause (S.tells shelf.old) (S.contents shelf.old) (check tables.entry.letter tables.entry.pools.now tables.entry.programmes.now tables.entry.applications.now document.now) (S.faults shelf.old) (S.faults shelf.new)) }
+    ensures cause { let inputs = inputs_of (check (tables_in tables.entry) document.now) in
+        IfErr result (IsCause inputs (S.files shelf.old) (S.files shelf.new)) }
     ensures late { IfErr result (λ failure. is_of_files failure ≡ true) }
-    ensures keeps { KeepsFiles (S.tells shelf.old) (S.tells shelf.new) (S.contents shelf.old) (S.contents shelf.new) (S.faults shelf.old) (S.faults shelf.new) }
+    ensures keeps { KeepsFiles (S.files shelf.old) (S.files shelf.new) }
 {
     let named = read_tables(alloc, tables, shelf)?;
     let doc = fetch_result(alloc, shelf, document, &named, tables.letter)?;
@@ -93,8 +99,7 @@ fn judge<S: Shelf>(
 
 // The status with which a check ends.
 fn verdict_status(verdict: Verdict) -> u8
-    ensures status { result ≡ status_of_verdict verdict }
-    ensures done { (result ≡ 0) ⊎ (result ≡ 1) }
+    ensures { result ≡ status_of_verdict verdict }
 {
     match verdict {
         Verdict::Yes => 0,
@@ -110,14 +115,16 @@ pub fn check_to<S: Shelf, O: Sink>(
     shelf: &mut S,
     out: &mut O,
 ) -> Result<u8, Failure>
-    ensures checked { IfOk result (λ status. S.tells shelf.old ≡ true → IsChecked (S.contents shelf.old) (inputs_of (check tables.entry.letter tables.entry.pools.now tables.entry.programmes.now tables.entry.applications.now document.now)) status (Appends (O.taken out.old) (O.taken out.new))) }
-    ensures done { IfOk result (λ status. (status ≡ 0) ⊎ (status ≡ 1)) }
-    ensures broken_off { IsErrOf result Failure.Unwritable → S.tells shelf.old ≡ true → (status : ℕ) × IsChecked (S.contents shelf.old) (inputs_of (check tables.entry.letter tables.entry.pools.now tables.entry.programmes.now tables.entry.applications.now document.now)) status (AppendsPart (O.taken out.old) (O.taken out.new)) }
-    ensures partly { IsErrOf result Failure.OutOfMemory → (out.new ≡ out.old) ⊎ (S.tells shelf.old ≡ true → (status : ℕ) × IsChecked (S.contents shelf.old) (inputs_of (check tables.entry.letter tables.entry.pools.now tables.entry.programmes.now tables.entry.applications.now document.now)) status (AppendsPart (O.taken out.old) (O.taken out.new))) }
-    ensures untouched { IfErr result (λ failure. (failure ≡ Failure.Unwritable) ⊎ (failure ≡ Failure.OutOfMemory) ⊎ (out.new ≡ out.old)) }
-    ensures cause { IfErr result (IsCause (S.tells shelf.old) (S.contents shelf.old) (check tables.entry.letter tables.entry.pools.now tables.entry.programmes.now tables.entry.applications.now document.now) (S.faults shelf.old) (S.faults shelf.new)) }
-    ensures unwritable { IsErrOf result Failure.Unwritable → Rose (O.faults out.old) (O.faults out.new) }
-    ensures keeps { KeepsFiles (S.tells shelf.old) (S.tells shelf.new) (S.contents shelf.old) (S.contents shelf.new) (S.faults shelf.old) (S.faults shelf.new) }
+    ensures carried_out { let command = check (tables_in tables.entry) document.now in
+        IfOk result (Performs (S.files shelf.old) command (O.output out.old) (O.output out.new)) }
+    ensures done { IfOk result (IsDoneQuietly (check (tables_in tables.entry) document.now)) }
+    ensures left { let command = check (tables_in tables.entry) document.now in
+        let same = out.new ≡ out.old in
+        IfErr result
+        (LeavesOf (S.files shelf.old) command same (O.output out.old) (O.output out.new)) }
+    ensures cause { let inputs = inputs_of (check (tables_in tables.entry) document.now) in
+        IfErr result (IsCause inputs (S.files shelf.old) (S.files shelf.new)) }
+    ensures keeps { KeepsFiles (S.files shelf.old) (S.files shelf.new) }
 {
     let (named, verdict) = judge(alloc, tables, document, shelf)?;
     match verdict_text(alloc, &named, &verdict, out) {

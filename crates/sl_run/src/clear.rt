@@ -1,11 +1,8 @@
-ghost use Rattle.std.specs.Prelude.{◌≡◌, ◌⊎◌, true, OnOk, IfErr, IsErrOf};
-ghost use Rattle.std.specs.Io.KnownBytes.{Appends};
-ghost use Rattle.sl_io.specs.Count.{Rose};
-ghost use Rattle.sl_io.specs.Sink.{AppendsPart};
-ghost use Rattle.sl_run.specs.Words.{clear, inputs_of};
+ghost use Rattle.std.specs.Prelude.{◌≡◌, OnOk, IfErr};
+ghost use Rattle.sl_io.specs.Shelf.{KeepsFiles};
+ghost use Rattle.sl_run.specs.Words.{clear, tables_in, inputs_in};
 ghost use Rattle.sl_run.specs.Causes.{IsCause};
-ghost use Rattle.sl_run.specs.Fetching.{KeepsFiles};
-ghost use Rattle.sl_run.specs.Run.{IsCleared};
+ghost use Rattle.sl_run.specs.Run.{Performs, LeavesOf};
 
 use crate::failure::Failure;
 use crate::files::read_tables;
@@ -24,13 +21,16 @@ pub fn clear_to<S: Shelf, O: Sink>(
     shelf: &mut S,
     out: &mut O,
 ) -> Result<(), Failure>
-    ensures cleared { OnOk result (S.tells shelf.old ≡ true → IsCleared (S.contents shelf.old) (inputs_of (clear tables.entry.letter tables.entry.pools.now tables.entry.programmes.now tables.entry.applications.now)) (Appends (O.taken out.old) (O.taken out.new))) }
-    ensures broken_off { IsErrOf result Failure.Unwritable → S.tells shelf.old ≡ true → IsCleared (S.contents shelf.old) (inputs_of (clear tables.entry.letter tables.entry.pools.now tables.entry.programmes.now tables.entry.applications.now)) (AppendsPart (O.taken out.old) (O.taken out.new)) }
-    ensures partly { IsErrOf result Failure.OutOfMemory → (out.new ≡ out.old) ⊎ (S.tells shelf.old ≡ true → IsCleared (S.contents shelf.old) (inputs_of (clear tables.entry.letter tables.entry.pools.now tables.entry.programmes.now tables.entry.applications.now)) (AppendsPart (O.taken out.old) (O.taken out.new))) }
-    ensures untouched { IfErr result (λ failure. (failure ≡ Failure.Unwritable) ⊎ (failure ≡ Failure.OutOfMemory) ⊎ (out.new ≡ out.old)) }
-    ensures cause { IfErr result (IsCause (S.tells shelf.old) (S.contents shelf.old) (clear tables.entry.letter tables.entry.pools.now tables.entry.programmes.now tables.entry.applications.now) (S.faults shelf.old) (S.faults shelf.new)) }
-    ensures unwritable { IsErrOf result Failure.Unwritable → Rose (O.faults out.old) (O.faults out.new) }
-    ensures keeps { KeepsFiles (S.tells shelf.old) (S.tells shelf.new) (S.contents shelf.old) (S.contents shelf.new) (S.faults shelf.old) (S.faults shelf.new) }
+    ensures carried_out { let command = clear (tables_in tables.entry) in
+        OnOk result
+        (Performs (S.files shelf.old) command (O.output out.old) (O.output out.new) 0) }
+    ensures left { let command = clear (tables_in tables.entry) in
+        let same = out.new ≡ out.old in
+        IfErr result
+        (LeavesOf (S.files shelf.old) command same (O.output out.old) (O.output out.new)) }
+    ensures cause { let inputs = inputs_in tables.entry in
+        IfErr result (IsCause inputs (S.files shelf.old) (S.files shelf.new)) }
+    ensures keeps { KeepsFiles (S.files shelf.old) (S.files shelf.new) }
 {
     let named = read_tables(alloc, tables, shelf)?;
     let doc = result_of(rt, alloc, &named)?;

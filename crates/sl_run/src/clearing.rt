@@ -1,13 +1,12 @@
-ghost use Rattle.std.specs.Prelude.{◌≡◌, ◌≢◌, ◌<◌, ℕ, true, false, All, length, slice_index, MatchOption, MatchBool, IfOk, OnOk};
+ghost use Rattle.std.specs.Prelude.{◌≡◌, ◌≢◌, ◌<◌, ℕ, true, false, All, length, slice_index, MatchOption, IfOk, OnOk};
 ghost use Rattle.sl_laws.specs.Limits.{effective_limit};
 ghost use Rattle.sl_laws.specs.Stable.{IsSettled, IsLeastStable};
 ghost use Rattle.sl_laws.specs.Raises.{Proves};
 ghost use Rattle.sl_contend.specs.Contention.{contention_of};
-ghost use Rattle.sl_contend.specs.Scores.{HasRoomFor};
+ghost use Rattle.sl_contend.specs.Rule.{CoversAll};
 ghost use Rattle.sl_check.specs.Verdict.{AreSettled};
-ghost use Rattle.sl_run.specs.Clearing.{AreFresh, AreScorePools, is_stale, IsGreatestRaise, IsUnderWay, room};
+ghost use Rattle.sl_run.specs.Clearing.{AreFresh, AreMadeFor, ArePublished, KeepsOthers, is_stale, IsGreatestRaise, IsUnderWay, RoseOr};
 
-use crate::by_pool::ByPool;
 use sl_contend::{Contenders, RaiseRule, Scratch};
 use sl_laws::plain_eff;
 use sl_types::{Instance, OutOfMemory, PoolId, Raise};
@@ -22,22 +21,24 @@ pub struct Clearing {
 
 // The greatest justified raise of a pool, where it is above the pool's effective limit.
 #[tactic(auto, using(crate::proofs::Raising::greatest, crate::proofs::Raising::settled_by))]
-fn greatest_raise(
+fn greatest_raise<R: RaiseRule>(
+    rule: &R,
     instance: &Instance,
     contenders: &Contenders,
     limits: &[u32],
     scratch: &mut Scratch,
     pool: PoolId,
 ) -> Option<u32>
-    requires alone { AreScorePools instance.now }
-    requires contenders { contenders.now ≡ contention_of instance.now }
-    requires scratch { HasRoomFor instance.now scratch.old }
+    requires covered { CoversAll R.covers rule.now instance.now }
+    requires made { AreMadeFor instance.now contenders.now scratch.old }
     requires sizes { length limits.now ≡ length instance.now.pools }
     requires within { pool.0 < length instance.now.pools }
-    ensures raise { MatchOption result (IsSettled instance.now (slice_index limits.now) pool.0) (λ x. IsGreatestRaise instance.now (slice_index limits.now) pool.0 x) }
-    ensures scratch { HasRoomFor instance.now scratch.new }
+    ensures raise { let t = slice_index limits.now in
+        MatchOption result (IsSettled instance.now t pool.0)
+        (IsGreatestRaise instance.now t pool.0) }
+    ensures made { AreMadeFor instance.now contenders.now scratch.new }
 {
-    let best = ByPool.best(instance, contenders, pool, limits, scratch);
+    let best = rule.best(instance, contenders, pool, limits, scratch);
     if best > plain_eff(instance, limits, pool) {
         Some(best)
     } else {
@@ -46,26 +47,30 @@ fn greatest_raise(
 }
 
 // Raises a pool where it can be. Tells whether it was.
-fn raise_pool(
+fn raise_pool<R: RaiseRule>(
+    rule: &R,
     instance: &Instance,
     contenders: &Contenders,
     clearing: &mut Clearing,
     scratch: &mut Scratch,
     pool: PoolId,
 ) -> Result<bool, OutOfMemory>
-    requires alone { AreScorePools instance.now }
-    requires contenders { contenders.now ≡ contention_of instance.now }
-    requires scratch { HasRoomFor instance.now scratch.old }
-    requires under_way { IsUnderWay instance.now clearing.old.limits.items clearing.old.raises.items }
+    requires covered { CoversAll R.covers rule.now instance.now }
+    requires made { AreMadeFor instance.now contenders.now scratch.old }
+    requires under_way { IsUnderWay instance.now clearing.old }
     requires within { pool.0 < length instance.now.pools }
-    ensures scratch { HasRoomFor instance.now scratch.new }
-    ensures under_way { OnOk result (IsUnderWay instance.now clearing.new.limits.items clearing.new.raises.items) }
-    ensures settled { OnOk result (IsSettled instance.now (slice_index clearing.new.limits.items) pool.0) }
-    ensures others { OnOk result ((Q : ℕ) → Q ≢ pool.0 → slice_index clearing.new.limits.items Q ≡ slice_index clearing.old.limits.items Q) }
-    ensures raised { IfOk result (λ raised. MatchBool raised (room clearing.new.limits.items < room clearing.old.limits.items) (clearing.new.limits.items ≡ clearing.old.limits.items)) }
+    ensures made { AreMadeFor instance.now contenders.now scratch.new }
+    ensures under_way { OnOk result (IsUnderWay instance.now clearing.new) }
+    ensures settled { let after = slice_index clearing.new.limits.items in
+        OnOk result (IsSettled instance.now after pool.0) }
+    ensures others { OnOk result (KeepsOthers clearing.old clearing.new pool.0) }
+    ensures raised { let before = clearing.old.limits.items in
+        let after = clearing.new.limits.items in
+        IfOk result (RoseOr before after (after ≡ before)) }
 {
     let _pools = instance.pools();
-    let Some(limit) = greatest_raise(instance, contenders, &clearing.limits, scratch, pool) else {
+    let Some(limit) = greatest_raise(rule, instance, contenders, &clearing.limits, scratch, pool)
+    else {
         return Ok(false);
     };
     let Ok(()) = clearing.raises.push(Raise { pool, limit }) else {
@@ -89,7 +94,8 @@ fn mark(stale: &mut [bool], pools: &[PoolId])
 
 // Raises a pool where it can be, if it is stale: a pool that isn't is settled. Where it was raised, the pools
 // that it feeds are stale from then on. Tells whether it was.
-fn visit(
+fn visit<R: RaiseRule>(
+    rule: &R,
     instance: &Instance,
     contenders: &Contenders,
     clearing: &mut Clearing,
@@ -97,24 +103,26 @@ fn visit(
     stale: &mut [bool],
     pool: PoolId,
 ) -> Result<bool, OutOfMemory>
-    requires alone { AreScorePools instance.now }
-    requires contenders { contenders.now ≡ contention_of instance.now }
-    requires scratch { HasRoomFor instance.now scratch.old }
-    requires under_way { IsUnderWay instance.now clearing.old.limits.items clearing.old.raises.items }
+    requires covered { CoversAll R.covers rule.now instance.now }
+    requires made { AreMadeFor instance.now contenders.now scratch.old }
+    requires under_way { IsUnderWay instance.now clearing.old }
     requires within { pool.0 < length instance.now.pools }
     requires sizes { length stale.old ≡ length instance.now.pools }
     requires fresh { AreFresh instance.now clearing.old.limits.items stale.old }
-    ensures scratch { HasRoomFor instance.now scratch.new }
+    ensures made { AreMadeFor instance.now contenders.now scratch.new }
     ensures sizes { length stale.new ≡ length stale.old }
-    ensures under_way { OnOk result (IsUnderWay instance.now clearing.new.limits.items clearing.new.raises.items) }
+    ensures under_way { OnOk result (IsUnderWay instance.now clearing.new) }
     ensures fresh { OnOk result (AreFresh instance.now clearing.new.limits.items stale.new) }
-    ensures raised { IfOk result (λ raised. MatchBool raised (room clearing.new.limits.items < room clearing.old.limits.items) ((clearing.new.limits.items ≡ clearing.old.limits.items) × IsSettled instance.now (slice_index clearing.old.limits.items) pool.0)) }
+    ensures raised { let before = clearing.old.limits.items in
+        let after = clearing.new.limits.items in
+        let same = (after ≡ before) × IsSettled instance.now (slice_index before) pool.0 in
+        IfOk result (RoseOr before after same) }
 {
     let _pools = instance.pools();
     if !stale[pool.0 as usize] {
         return Ok(false);
     }
-    if !raise_pool(instance, contenders, clearing, scratch, pool)? {
+    if !raise_pool(rule, instance, contenders, clearing, scratch, pool)? {
         stale[pool.0 as usize] = false;
         return Ok(false);
     }
@@ -124,28 +132,32 @@ fn visit(
 }
 
 // Visits each pool once, in rising order. Tells whether one was raised.
-fn visit_each(
+fn visit_each<R: RaiseRule>(
+    rule: &R,
     instance: &Instance,
     contenders: &Contenders,
     clearing: &mut Clearing,
     scratch: &mut Scratch,
     stale: &mut [bool],
 ) -> Result<bool, OutOfMemory>
-    requires alone { AreScorePools instance.now }
-    requires contenders { contenders.now ≡ contention_of instance.now }
-    requires scratch { HasRoomFor instance.now scratch.old }
-    requires under_way { IsUnderWay instance.now clearing.old.limits.items clearing.old.raises.items }
+    requires covered { CoversAll R.covers rule.now instance.now }
+    requires made { AreMadeFor instance.now contenders.now scratch.old }
+    requires under_way { IsUnderWay instance.now clearing.old }
     requires sizes { length stale.old ≡ length instance.now.pools }
     requires fresh { AreFresh instance.now clearing.old.limits.items stale.old }
-    ensures scratch { HasRoomFor instance.now scratch.new }
+    ensures made { AreMadeFor instance.now contenders.now scratch.new }
     ensures sizes { length stale.new ≡ length stale.old }
-    ensures under_way { OnOk result (IsUnderWay instance.now clearing.new.limits.items clearing.new.raises.items) }
+    ensures under_way { OnOk result (IsUnderWay instance.now clearing.new) }
     ensures fresh { OnOk result (AreFresh instance.now clearing.new.limits.items stale.new) }
-    ensures raised { IfOk result (λ raised. MatchBool raised (room clearing.new.limits.items < room clearing.old.limits.items) (AreSettled instance.now (slice_index clearing.new.limits.items))) }
+    ensures raised { let before = clearing.old.limits.items in
+        let after = clearing.new.limits.items in
+        let settled = AreSettled instance.now (slice_index after) in
+        IfOk result (RoseOr before after settled) }
 {
     let mut any = false;
     for number in 0..instance.pools() {
         if visit(
+            rule,
             instance,
             contenders,
             clearing,
@@ -163,7 +175,7 @@ fn visit_each(
 fn publish(alloc: Global, instance: &Instance, limits: &[u32]) -> Result<Vec<u32>, OutOfMemory>
     requires { length limits.now ≡ length instance.now.pools }
     ensures each { IfOk result (λ v. length v.items ≡ length instance.now.pools) }
-    ensures effective { IfOk result (λ v. (P : ℕ) → P < length instance.now.pools → slice_index v.items P ≡ effective_limit instance.now (slice_index limits.now) P) }
+    ensures effective { IfOk result (λ v. ArePublished instance.now limits.now v.items) }
 {
     let mut published = Vec::new(alloc);
     for number in 0..instance.pools() {
@@ -176,17 +188,19 @@ fn publish(alloc: Global, instance: &Instance, limits: &[u32]) -> Result<Vec<u32
 }
 
 /// The least stable limits, and raises that prove them: round after round over the pools in rising order,
-/// until a round raises none. The contenders were made for the instance.
+/// until a round raises none. The rule covers each pool, and the contenders were made for the instance.
 #[tactic(auto, using(crate::proofs::Raising::at_zeros, crate::proofs::Raising::ended))]
-pub fn clear(
+pub fn clear<R: RaiseRule>(
     alloc: Global,
+    rule: &R,
     instance: &Instance,
     contenders: &Contenders,
 ) -> Result<Clearing, OutOfMemory>
-    requires alone { AreScorePools instance.now }
+    requires covered { CoversAll R.covers rule.now instance.now }
     requires contenders { contenders.now ≡ contention_of instance.now }
     ensures each { IfOk result (λ c. length c.limits.items ≡ length instance.now.pools) }
-    ensures proved { IfOk result (λ c. Proves instance.now c.raises.items (slice_index c.limits.items)) }
+    ensures proved { IfOk result
+        (λ c. Proves instance.now c.raises.items (slice_index c.limits.items)) }
     ensures least { IfOk result (λ c. IsLeastStable instance.now (slice_index c.limits.items)) }
 {
     let mut scratch = Scratch::new(alloc, instance, contenders)?;
@@ -201,6 +215,7 @@ pub fn clear(
         raises: Vec::new(alloc),
     };
     while visit_each(
+        rule,
         instance,
         contenders,
         &mut clearing,

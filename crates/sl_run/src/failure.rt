@@ -1,7 +1,7 @@
 ghost use Rattle.std.specs.Prelude.{◌≡◌, map};
 ghost use Rattle.std.specs.List.{concat};
 ghost use Rattle.sl_run.specs.Failures.{status_of, line_of};
-ghost use Rattle.sl_run.specs.Reports.{Reports};
+ghost use Rattle.sl_run.specs.Ending.{Reports};
 ghost use Rattle.sl_run.specs.declared.failure.Failure.TheVariants as failed;
 
 use itoa::Buffer;
@@ -77,7 +77,7 @@ impl From<OutOfMemory> for Failure {
 
 // Puts pieces one after another, up to the first fault.
 fn put_all<E: Sink>(pieces: &[&str], err: &mut E)
-    ensures { Reports (E.taken err.old) (E.taken err.new) (E.faults err.old) (E.faults err.new) (concat (map (λ s. s.now) pieces.now)) }
+    ensures { Reports (E.output err.old) (E.output err.new) (concat (map (λ s. s.now) pieces.now)) }
 {
     for piece in pieces {
         match err.put(piece.as_bytes()) {
@@ -89,7 +89,7 @@ fn put_all<E: Sink>(pieces: &[&str], err: &mut E)
 
 /// Puts a failure's line for people. A fault of the sink changes nothing else.
 pub fn report<E: Sink>(failure: Failure, err: &mut E)
-    ensures { Reports (E.taken err.old) (E.taken err.new) (E.faults err.old) (E.faults err.new) (line_of failure) }
+    ensures { Reports (E.output err.old) (E.output err.new) (line_of failure) }
 {
     match failure {
         Failure::Words => put_all(&["scorelimits: the words are not a command form\n"], err),

@@ -13,7 +13,7 @@ mod theorems;
 mod words;
 
 pub use command::run;
-pub use theorems::tables_are_one;
+pub use theorems::{tables_are_one, tables_have_instance};
 
 #[cfg(test)]
 mod tests;

@@ -3,6 +3,7 @@ ghost use Rattle.sl_doc.specs.Document.{IsInRange};
 ghost use Rattle.sl_run.specs.Clearing.{AreScorePools};
 ghost use Rattle.sl_run.specs.Result.{IsResultOf};
 
+use crate::by_pool::ByPool;
 use crate::clearing::clear;
 use sl_admit::{admissions, counts};
 use sl_contend::Contenders;
@@ -22,7 +23,7 @@ fn outcome_of(
     ensures { IfOk result (IsResultOf instance.now) }
 {
     let contenders = Contenders::new(alloc, instance)?;
-    let clearing = clear(alloc, instance, &contenders)?;
+    let clearing = clear(alloc, &ByPool, instance, &contenders)?;
     let admitted = admissions(rt, alloc, instance, &clearing.limits)?;
     let counts = counts(alloc, instance, &admitted)?;
     Ok(Doc {

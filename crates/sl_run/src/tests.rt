@@ -8,7 +8,10 @@ use std::thread::Threads;
 mod checking;
 mod clearing;
 mod faults;
+mod fetching;
 mod refusals;
+mod replaying;
+mod verdicts;
 
 const POOL_HEADER: &str = "pool,quota,parent,kind\n";
 
@@ -24,7 +27,8 @@ const DISPLACED: &str =
     "applicant,place,programme,score\nx,1,a,10\nx,2,b,10\ny,1,b,9\ny,2,a,12\nz,1,b,11\n";
 
 const DISPLACED_TEXT: &str =
-    "result,1,,\nrule,H,,\nlimit,A,11,1\nlimit,B,11,1\nadmit,x,0,\nadmit,y,2,a\nadmit,z,1,b\nraise,B,10,\nraise,A,11,\nraise,B,11,\nend,10,,\n";
+    "result,1,,\nrule,H,,\nlimit,A,11,1\nlimit,B,11,1\nadmit,x,0,\nadmit,y,2,a\nadmit,z,1,b\n\
+        raise,B,10,\nraise,A,11,\nraise,B,11,\nend,10,,\n";
 
 const NOBODY: &str = "applicant,place,programme,score\n";
 

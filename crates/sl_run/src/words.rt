@@ -1,7 +1,6 @@
-ghost use Rattle.std.specs.Prelude.{◌≡◌, ◌≢◌, ℕ, List, map, string_bytes, MatchOption};
+ghost use Rattle.std.specs.Prelude.{◌≡◌, ◌≢◌, option_map};
 ghost use Rattle.sl_types.specs.declared.kinds.Rule.TheVariants.{Merit};
-ghost use Rattle.sl_run.specs.declared.words.Letter.{Letter};
-ghost use Rattle.sl_run.specs.Words.{clear, check, letter_rule, letter_word, words_of};
+ghost use Rattle.sl_run.specs.Words.{texts_of, command_in, command_of, clear_of, check_of, letter_of, letter_rule};
 
 use sl_types::Rule;
 
@@ -15,7 +14,7 @@ pub enum Letter {
 impl Letter {
     // The letter that a word is.
     fn of(word: &str) -> Option<Letter>
-        ensures { MatchOption result ((letter : Letter) → word.now ≢ letter_word letter) (λ letter. word.now ≡ letter_word letter) }
+        ensures { result ≡ letter_of word.now }
     {
         match word {
             "H" => Some(Letter::H),
@@ -45,40 +44,69 @@ pub struct Tables<'a> {
     pub applications: &'a str,
 }
 
-/// The tables of `clear R 1 pools programmes applications`, where the words are of this form.
-pub fn clear_tables(words: &[String]) -> Option<Tables<'_>>
-    ensures { MatchOption result ((letter : Letter) (p g a : List ℕ) → ¬ (map (λ w. string_bytes w) words.now ≡ words_of (clear letter p g a))) (λ t. map (λ w. string_bytes w) words.now ≡ words_of (clear t.letter t.pools.now t.programmes.now t.applications.now)) }
-{
-    match words {
-        [command, letter, workers, pools, programmes, applications]
-            if command.as_str() == "clear" && workers.as_str() == "1" => {
-            Some(Tables {
-                letter: Letter::of(letter.as_str())?,
-                pools: pools.as_str(),
-                programmes: programmes.as_str(),
-                applications: applications.as_str(),
-            })
-        }
-        _ => None,
-    }
+/// A command, with its files.
+#[derive(Clone, Copy, Debug)]
+pub enum Command<'a> {
+    /// `clear R 1 pools programmes applications`
+    Clear {
+        tables: Tables<'a>,
+    },
+    /// `check R pools programmes applications result`
+    Check {
+        tables: Tables<'a>,
+        document: &'a str,
+    },
 }
 
-/// The tables of `check R pools programmes applications result`, and the document, where the words are of this
-/// form.
-pub fn check_tables(words: &[String]) -> Option<(Tables<'_>, &str)>
-    ensures { MatchOption result ((letter : Letter) (p g a d : List ℕ) → ¬ (map (λ w. string_bytes w) words.now ≡ words_of (check letter p g a d))) (λ r. map (λ w. string_bytes w) words.now ≡ words_of (check r.0.letter r.0.pools.now r.0.programmes.now r.0.applications.now r.1.now)) }
-{
-    match words {
-        [command, letter, pools, programmes, applications, document]
-            if command.as_str() == "check" => {
-            let tables = Tables {
-                letter: Letter::of(letter.as_str())?,
-                pools: pools.as_str(),
-                programmes: programmes.as_str(),
-                applications: applications.as_str(),
-            };
-            Some((tables, document.as_str()))
+impl<'a> Command<'a> {
+    /// The command that words are: its name, and the words of its form.
+    pub fn of(words: &'a [String]) -> Option<Command<'a>>
+        ensures { option_map (λ c. command_in c) result ≡ command_of (texts_of words.now) }
+    {
+        let [name, words @ ..] = words else {
+            return None;
+        };
+        match name.as_str() {
+            "clear" => Command::clear_of(words),
+            "check" => Command::check_of(words),
+            _ => None,
         }
-        _ => None,
+    }
+
+    // `R 1 pools programmes applications`
+    fn clear_of(words: &'a [String]) -> Option<Command<'a>>
+        ensures { option_map (λ c. command_in c) result ≡ clear_of (texts_of words.now) }
+    {
+        match words {
+            [letter, workers, pools, programmes, applications] if workers.as_str() == "1" => {
+                Some(Command::Clear {
+                    tables: Tables {
+                        letter: Letter::of(letter.as_str())?,
+                        pools: pools.as_str(),
+                        programmes: programmes.as_str(),
+                        applications: applications.as_str(),
+                    },
+                })
+            }
+            _ => None,
+        }
+    }
+
+    // `R pools programmes applications result`
+    fn check_of(words: &'a [String]) -> Option<Command<'a>>
+        ensures { option_map (λ c. command_in c) result ≡ check_of (texts_of words.now) }
+    {
+        match words {
+            [letter, pools, programmes, applications, document] => Some(Command::Check {
+                tables: Tables {
+                    letter: Letter::of(letter.as_str())?,
+                    pools: pools.as_str(),
+                    programmes: programmes.as_str(),
+                    applications: applications.as_str(),
+                },
+                document: document.as_str(),
+            }),
+            _ => None,
+        }
     }
 }

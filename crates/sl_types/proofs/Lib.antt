@@ -1,3 +1,12 @@
 pub mod Lists
+pub mod Added
+pub mod Chains
 pub mod Faultless
+pub mod Firsts
+pub mod Alike
+pub mod Walks
+pub mod Rings
+pub mod Roots
+pub mod Ties
+pub mod ByTrees
 pub mod Flat

@@ -1,5 +1,8 @@
 pub mod Market
+pub mod Rows
 pub mod Rules
+pub mod Steps
+pub mod Trees
 pub mod Valid
 pub mod WellFormed
 pub mod Stage

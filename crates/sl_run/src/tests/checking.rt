@@ -28,7 +28,8 @@ fn verdicts(rt: HostRuntime) -> Result<(), Fail> {
     for (document, out) in [
         // Unproved second raise.
         (
-            "result,1,,\nrule,H,,\nlimit,A,11,1\nlimit,B,11,1\nadmit,x,0,\nadmit,y,2,a\nadmit,z,1,b\nraise,B,11,\nraise,A,11,\nend,9,,\n",
+            "result,1,,\nrule,H,,\nlimit,A,11,1\nlimit,B,11,1\nadmit,x,0,\nadmit,y,2,a\n\
+                admit,z,1,b\nraise,B,11,\nraise,A,11,\nend,9,,\n",
             "verdict,RaiseUnjust,1,\n",
         ),
         // Nothing raised.
@@ -38,17 +39,20 @@ fn verdicts(rt: HostRuntime) -> Result<(), Fail> {
         ),
         // A limit above the one that the raises lead to.
         (
-            "result,1,,\nrule,H,,\nlimit,A,11,1\nlimit,B,12,0\nadmit,x,0,\nadmit,y,2,a\nadmit,z,0,\nraise,B,10,\nraise,A,11,\nraise,B,11,\nend,10,,\n",
+            "result,1,,\nrule,H,,\nlimit,A,11,1\nlimit,B,12,0\nadmit,x,0,\nadmit,y,2,a\nadmit,z,0,\n\
+                raise,B,10,\nraise,A,11,\nraise,B,11,\nend,10,,\n",
             "verdict,LimitWrong,B,\n",
         ),
         // A wrong admission.
         (
-            "result,1,,\nrule,H,,\nlimit,A,11,1\nlimit,B,11,1\nadmit,x,1,a\nadmit,y,2,a\nadmit,z,1,b\nraise,B,10,\nraise,A,11,\nraise,B,11,\nend,10,,\n",
+            "result,1,,\nrule,H,,\nlimit,A,11,1\nlimit,B,11,1\nadmit,x,1,a\nadmit,y,2,a\n\
+                admit,z,1,b\nraise,B,10,\nraise,A,11,\nraise,B,11,\nend,10,,\n",
             "verdict,AdmissionWrong,x,\n",
         ),
         // A wrong count.
         (
-            "result,1,,\nrule,H,,\nlimit,A,11,2\nlimit,B,11,1\nadmit,x,0,\nadmit,y,2,a\nadmit,z,1,b\nraise,B,10,\nraise,A,11,\nraise,B,11,\nend,10,,\n",
+            "result,1,,\nrule,H,,\nlimit,A,11,2\nlimit,B,11,1\nadmit,x,0,\nadmit,y,2,a\n\
+                admit,z,1,b\nraise,B,10,\nraise,A,11,\nraise,B,11,\nend,10,,\n",
             "verdict,CountWrong,A,\n",
         ),
     ] {
@@ -78,35 +82,43 @@ fn swapped_admissions(rt: HostRuntime) -> Result<(), Fail> {
 fn refused_documents(rt: HostRuntime) -> Result<(), Fail> {
     for (document, line) in [
         (
-            "result,2,,\nrule,H,,\nlimit,A,11,1\nlimit,B,11,1\nadmit,x,0,\nadmit,y,2,a\nadmit,z,1,b\nraise,B,10,\nraise,A,11,\nraise,B,11,\nend,10,,\n",
+            "result,2,,\nrule,H,,\nlimit,A,11,1\nlimit,B,11,1\nadmit,x,0,\nadmit,y,2,a\n\
+                admit,z,1,b\nraise,B,10,\nraise,A,11,\nraise,B,11,\nend,10,,\n",
             "result:1: BadHeader\n",
         ),
         (
-            "result,1,,\nrule,H,,\nlimit,B,11,1\nlimit,A,11,1\nadmit,x,0,\nadmit,y,2,a\nadmit,z,1,b\nraise,B,10,\nraise,A,11,\nraise,B,11,\nend,10,,\n",
+            "result,1,,\nrule,H,,\nlimit,B,11,1\nlimit,A,11,1\nadmit,x,0,\nadmit,y,2,a\n\
+                admit,z,1,b\nraise,B,10,\nraise,A,11,\nraise,B,11,\nend,10,,\n",
             "result:3: OutOfOrder\n",
         ),
         (
-            "result,1,,\nrule,H,,\nlimit,A,11,1\nlimit,B,11,1\nadmit,x,0,\nadmit,y,1,a\nadmit,z,1,b\nraise,B,10,\nraise,A,11,\nraise,B,11,\nend,10,,\n",
+            "result,1,,\nrule,H,,\nlimit,A,11,1\nlimit,B,11,1\nadmit,x,0,\nadmit,y,1,a\n\
+                admit,z,1,b\nraise,B,10,\nraise,A,11,\nraise,B,11,\nend,10,,\n",
             "result:6: UnknownChoice\n",
         ),
         (
-            "result,1,,\nrule,H,,\nlimit,A,11,1\nlimit,B,11,1\nadmit,x,0,\nadmit,y,2,a\nadmit,z,1,b\nraise,Z,10,\nraise,A,11,\nraise,B,11,\nend,10,,\n",
+            "result,1,,\nrule,H,,\nlimit,A,11,1\nlimit,B,11,1\nadmit,x,0,\nadmit,y,2,a\n\
+                admit,z,1,b\nraise,Z,10,\nraise,A,11,\nraise,B,11,\nend,10,,\n",
             "result:8: UnknownPool\n",
         ),
         (
-            "result,1,,\nrule,H,,\nlimit,A,11,1\nlimit,B,11,1\nadmit,x,0,\nadmit,y,2,a\nadmit,z,1,b\nraise,B,0,\nraise,A,11,\nraise,B,11,\nend,10,,\n",
+            "result,1,,\nrule,H,,\nlimit,A,11,1\nlimit,B,11,1\nadmit,x,0,\nadmit,y,2,a\n\
+                admit,z,1,b\nraise,B,0,\nraise,A,11,\nraise,B,11,\nend,10,,\n",
             "result:8: BadNumber\n",
         ),
         (
-            "result,1,,\nrule,H,,\nlimit,A,11,1\nlimit,B,11,1\nadmit,x,0,\nadmit,y,2,a\nadmit,z,1,b\nraise,B,10,\nraise,A,11,\nraise,B,11,\nend,9,,\n",
+            "result,1,,\nrule,H,,\nlimit,A,11,1\nlimit,B,11,1\nadmit,x,0,\nadmit,y,2,a\n\
+                admit,z,1,b\nraise,B,10,\nraise,A,11,\nraise,B,11,\nend,9,,\n",
             "result:11: BadEnd\n",
         ),
         (
-            "result,1,,\nrule,H,,\nlimit,A,11,1\nlimit,B,11,1\nadmit,x,0,\nadmit,y,2,a\nadmit,z,1,b\nraise,B,10,\nraise,A,11,\nraise,B,11,\nend,10,,\nend,11,,\n",
+            "result,1,,\nrule,H,,\nlimit,A,11,1\nlimit,B,11,1\nadmit,x,0,\nadmit,y,2,a\n\
+                admit,z,1,b\nraise,B,10,\nraise,A,11,\nraise,B,11,\nend,10,,\nend,11,,\n",
             "result:12: AfterEnd\n",
         ),
         (
-            "result,1,,\nrule,H,,\nlimit,A,11,1\nlimit,B,11,1\nadmit,x,0,\nadmit,y,2,a\nadmit,z,1,b\nraise,B,10,\nraise,A,11,\nraise,B,11,\n",
+            "result,1,,\nrule,H,,\nlimit,A,11,1\nlimit,B,11,1\nadmit,x,0,\nadmit,y,2,a\n\
+                admit,z,1,b\nraise,B,10,\nraise,A,11,\nraise,B,11,\n",
             "result:11: NoEnd\n",
         ),
     ] {
@@ -127,7 +139,9 @@ fn refused_documents(rt: HostRuntime) -> Result<(), Fail> {
 fn documents_in_other_words(rt: HostRuntime) -> Result<(), Fail> {
     expect_checked(
         &rt,
-        "\u{feff}\"result\",\"1\",\"\",\r\n\r\n\"rule\",H,,\"\"\r\nlimit,\"A\",0011,01\rlimit,B,11,1\nadmit,x,0,\"\"\nadmit,y,\"2\",a\nadmit,z,1,b\nraise,B,10,\nraise,A,11,\nraise,B,11,\nend,10,,",
+        "\u{feff}\"result\",\"1\",\"\",\r\n\r\n\"rule\",H,,\"\"\r\n\
+            limit,\"A\",0011,01\rlimit,B,11,1\nadmit,x,0,\"\"\nadmit,y,\"2\",a\nadmit,z,1,b\n\
+            raise,B,10,\nraise,A,11,\nraise,B,11,\nend,10,,",
         done("verdict,Yes,,\n"),
     )
 }

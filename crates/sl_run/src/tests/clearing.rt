@@ -18,9 +18,14 @@ const FACULTIES: Case = Case {
     name: "two faculties under H",
     letter: "H",
     pools: "\u{feff}pool,quota,parent,kind\r\n\"ELTE IK, nappali\",2,,score\r\nBME-VIK,1,,score\r\n",
-    programmes: "\u{feff}programme,pool\r\nELTE-PTI,\"ELTE IK, nappali\"\r\nELTE-MAT,\"ELTE IK, nappali\"\r\nBME-INF,BME-VIK\r\n",
-    applications: "\u{feff}applicant,place,programme,score\r\nÁ-71001,2,ELTE-PTI,452\r\nÁ-71002,1,BME-INF,461\r\n\"Á-71003\",1,ELTE-PTI,452\r\nÁ-71004,2,BME-INF,470\r\nÁ-71002,2,ELTE-MAT,430\r\nÁ-71001,1,BME-INF,447\r\nÁ-71004,1,\"ELTE-MAT\",455\r\n",
-    text: "result,1,,\nrule,H,,\nlimit,\"ELTE IK, nappali\",453,1\nlimit,BME-VIK,448,1\nadmit,Á-71001,0,\nadmit,Á-71002,1,BME-INF\nadmit,Á-71003,0,\nadmit,Á-71004,1,ELTE-MAT\nraise,BME-VIK,448,\nraise,\"ELTE IK, nappali\",453,\nend,10,,\n",
+    programmes: "\u{feff}programme,pool\r\nELTE-PTI,\"ELTE IK, nappali\"\r\n\
+        ELTE-MAT,\"ELTE IK, nappali\"\r\nBME-INF,BME-VIK\r\n",
+    applications: "\u{feff}applicant,place,programme,score\r\nÁ-71001,2,ELTE-PTI,452\r\n\
+        Á-71002,1,BME-INF,461\r\n\"Á-71003\",1,ELTE-PTI,452\r\nÁ-71004,2,BME-INF,470\r\n\
+        Á-71002,2,ELTE-MAT,430\r\nÁ-71001,1,BME-INF,447\r\nÁ-71004,1,\"ELTE-MAT\",455\r\n",
+    text: "result,1,,\nrule,H,,\nlimit,\"ELTE IK, nappali\",453,1\nlimit,BME-VIK,448,1\n\
+        admit,Á-71001,0,\nadmit,Á-71002,1,BME-INF\nadmit,Á-71003,0,\nadmit,Á-71004,1,ELTE-MAT\n\
+        raise,BME-VIK,448,\nraise,\"ELTE IK, nappali\",453,\nend,10,,\n",
 };
 
 // Clears, and checks the document that comes of it.
@@ -57,7 +62,8 @@ fn worked_examples(rt: HostRuntime) -> Result<(), Fail> {
             pools: TWO_POOLS,
             programmes: TWO_PROGRAMMES,
             applications: "applicant,place,programme,score\nx,1,a,10\nx,2,b,10\ny,1,a,8\ny,2,b,8\nz,1,b,9\n",
-            text: "result,1,,\nrule,H,,\nlimit,A,9,1\nlimit,B,9,1\nadmit,x,1,a\nadmit,y,0,\nadmit,z,1,b\nraise,A,9,\nraise,B,9,\nend,9,,\n",
+            text: "result,1,,\nrule,H,,\nlimit,A,9,1\nlimit,B,9,1\nadmit,x,1,a\nadmit,y,0,\n\
+                admit,z,1,b\nraise,A,9,\nraise,B,9,\nend,9,,\n",
         },
         Case {
             name: "crossing tie",
@@ -97,7 +103,8 @@ fn worked_examples(rt: HostRuntime) -> Result<(), Fail> {
             pools: TWO_POOLS,
             programmes: TWO_PROGRAMMES,
             applications: "applicant,place,programme,score\nz,1,b,11\nx,2,b,10\ny,2,a,12\ny,1,b,9\nx,1,a,10\n",
-            text: "result,1,,\nrule,H,,\nlimit,A,11,1\nlimit,B,11,1\nadmit,z,1,b\nadmit,x,0,\nadmit,y,2,a\nraise,B,10,\nraise,A,11,\nraise,B,11,\nend,10,,\n",
+            text: "result,1,,\nrule,H,,\nlimit,A,11,1\nlimit,B,11,1\nadmit,z,1,b\nadmit,x,0,\n\
+                admit,y,2,a\nraise,B,10,\nraise,A,11,\nraise,B,11,\nend,10,,\n",
         },
         Case {
             name: "swapped admissions",
@@ -119,7 +126,10 @@ fn worked_examples(rt: HostRuntime) -> Result<(), Fail> {
         Case {
             name: "two faculties under L",
             letter: "L",
-            text: "result,1,,\nrule,L,,\nlimit,\"ELTE IK, nappali\",452,3\nlimit,BME-VIK,448,1\nadmit,Á-71001,2,ELTE-PTI\nadmit,Á-71002,1,BME-INF\nadmit,Á-71003,1,ELTE-PTI\nadmit,Á-71004,1,ELTE-MAT\nraise,BME-VIK,448,\nraise,\"ELTE IK, nappali\",452,\nend,10,,\n",
+            text: "result,1,,\nrule,L,,\nlimit,\"ELTE IK, nappali\",452,3\nlimit,BME-VIK,448,1\n\
+                admit,Á-71001,2,ELTE-PTI\nadmit,Á-71002,1,BME-INF\nadmit,Á-71003,1,ELTE-PTI\n\
+                admit,Á-71004,1,ELTE-MAT\nraise,BME-VIK,448,\nraise,\"ELTE IK, nappali\",452,\n\
+                end,10,,\n",
             ..FACULTIES
         },
         Case {

@@ -4,8 +4,8 @@ use Rattle.sl_codes.specs.Records.{records_of}
 use Rattle.sl_codes.proofs.FirstFault.{header_first, read_to-header, read_to-right, read_to-wrong, read_to-end}
 use Rattle.sl_choices.specs.Choices.{choice_form, choice_of}
 use Rattle.sl_choices.proofs.Kept.{kept_none, kept_push}
-use Rattle.sl_choices.proofs.Lists.{length_map}
 use Rattle.sl_choices.proofs.Records.{causes_alike, prog_known, draft_none, draft_push}
+use Rattle.sl_codes.proofs.Lists.{length_map}
 use Rattle.sl_choices.proofs.choices.read_draft.Goals as goal
 
 pub returns-in_err-read_header-clause-refused : goal.returns-in_err-read_header-clause-refused

@@ -1,32 +1,32 @@
 use Rattle.std.proofs.Common.{◌≤◌, ◌<◌, arith, length, rules}
-use Rattle.sl_doc.specs.Printing.{held_by}
+use Rattle.std.proofs.lemmas.Result.{err_from_is_err_and}
+use Rattle.sl_codes.proofs.Printing.{keeps_none, keeps_on, prints_nothing, prints_more, breaks_more, prints_all}
 use Rattle.sl_doc.specs.ResultText.{admit_records, admit_record}
-use Rattle.sl_doc.proofs.Pieces.{print_more, print_broken, print_all}
 use Rattle.sl_doc.proofs.Records.{admits_length, admit_at}
 use Rattle.sl_doc.proofs.printing.print_admits.Goals as goal
 
-pub returns-in_err-print_admit-clause-part : goal.returns-in_err-print_admit-clause-part
-returns-in_err-print_admit-clause-part g c =
+pub loop-number-init : goal.loop-number-init
+loop-number-init g c = (keeps_none g.O.Sink.output c.args.printer.now, prints_nothing g.O.Sink.output c.args.printer.now)
+
+pub returns-in_err-print_admit-clause-broken : goal.returns-in_err-print_admit-clause-broken
+returns-in_err-print_admit-clause-broken g c =
     let n = c.args.named.now in
     let doc = c.args.doc.now in
     let k = c.loop-number.number in
     let lt : k < length n.market.lists = search rules in
-    let part = print_broken (g.O.Sink.taken c.args.out.now) (g.O.Sink.taken c.loop-number.out) (g.O.Sink.taken c.print_admit.new.out) (held_by c.args.batch.now.writer) (held_by c.loop-number.batch.writer)
-    (admit_records n doc) k (admit_record n doc k) (omega (arith, lt, admits_length n doc)) (admit_at n doc k lt) c.loop-number.invariant.2 c.in_err-print_admit.ensures.part in
-    search rules
+    let error = err_from_is_err_and c.from_residual.result c.from_residual.ensures.1 in
+    rw (error.1, error.2) (breaks_more g.O.Sink.output c.args.printer.now c.loop-number.printer c.print_admit.new.printer (admit_records n doc) k (admit_record n doc k) c.in_err-print_admit.field-0.0
+    (omega (arith, lt, admits_length n doc)) (admit_at n doc k lt) c.loop-number.invariant.0 c.loop-number.invariant.1 c.in_err-print_admit.ensures.broken)
 
 pub loop-number-preserved : goal.loop-number-preserved
 loop-number-preserved g c =
     let n = c.args.named.now in
     let doc = c.args.doc.now in
     let k = c.loop-number.number in
-    let inv = c.loop-number.invariant in
-    let lt : k < length n.market.lists = search rules in
-    let later = c.print_admit.ensures.later in (
-      c.in_ok-print_admit.ensures.between,
-      omega (arith, inv.1, later),
-      print_more (g.O.Sink.taken c.args.out.now) (g.O.Sink.taken c.loop-number.out) (g.O.Sink.taken c.print_admit.new.out) (held_by c.args.batch.now.writer) (held_by c.loop-number.batch.writer) (held_by c.print_admit.new.batch.writer)
-          (admit_records n doc) k (admit_record n doc k) (omega (arith, lt, admits_length n doc)) (admit_at n doc k lt) inv.2 c.in_ok-print_admit.ensures.text,
+    let lt : k < length n.market.lists = search rules in (
+      keeps_on g.O.Sink.output c.args.printer.now c.loop-number.printer c.print_admit.new.printer c.loop-number.invariant.0 c.print_admit.ensures.keeps,
+      prints_more g.O.Sink.output c.args.printer.now c.loop-number.printer c.print_admit.new.printer (admit_records n doc) k (admit_record n doc k)
+          (omega (arith, lt, admits_length n doc)) (admit_at n doc k lt) c.loop-number.invariant.1 c.in_ok-print_admit.ensures.text,
     )
 
 pub returns-clause-text : goal.returns-clause-text
@@ -35,4 +35,4 @@ returns-clause-text g c =
     let doc = c.args.doc.now in
     let k = c.loop-number.number in
     let past : length n.market.lists ≤ k = search rules in
-    print_all (g.O.Sink.taken c.args.out.now) (g.O.Sink.taken c.loop-number.out) (held_by c.args.batch.now.writer) (held_by c.loop-number.batch.writer) (admit_records n doc) k (omega (arith, past, admits_length n doc)) c.loop-number.invariant.2
+    prints_all g.O.Sink.output c.args.printer.now c.loop-number.printer (admit_records n doc) k (omega (arith, past, admits_length n doc)) c.loop-number.invariant.1

@@ -1,32 +1,32 @@
 use Rattle.std.proofs.Common.{◌≤◌, ◌<◌, arith, length, rules}
-use Rattle.sl_doc.specs.Printing.{held_by}
+use Rattle.std.proofs.lemmas.Result.{err_from_is_err_and}
+use Rattle.sl_codes.proofs.Printing.{keeps_none, keeps_on, prints_nothing, prints_more, breaks_more, prints_all}
 use Rattle.sl_doc.specs.ResultText.{limit_records, limit_record}
-use Rattle.sl_doc.proofs.Pieces.{print_more, print_broken, print_all}
 use Rattle.sl_doc.proofs.Records.{limits_length, limit_at}
 use Rattle.sl_doc.proofs.printing.print_limits.Goals as goal
 
-pub returns-in_err-print_limit-clause-part : goal.returns-in_err-print_limit-clause-part
-returns-in_err-print_limit-clause-part g c =
+pub loop-number-init : goal.loop-number-init
+loop-number-init g c = (keeps_none g.O.Sink.output c.args.printer.now, prints_nothing g.O.Sink.output c.args.printer.now)
+
+pub returns-in_err-print_limit-clause-broken : goal.returns-in_err-print_limit-clause-broken
+returns-in_err-print_limit-clause-broken g c =
     let n = c.args.named.now in
     let doc = c.args.doc.now in
     let k = c.loop-number.number in
     let lt : k < length n.market.pools = search rules in
-    let part = print_broken (g.O.Sink.taken c.args.out.now) (g.O.Sink.taken c.loop-number.out) (g.O.Sink.taken c.print_limit.new.out) (held_by c.args.batch.now.writer) (held_by c.loop-number.batch.writer)
-    (limit_records n doc) k (limit_record n doc k) (omega (arith, lt, limits_length n doc)) (limit_at n doc k lt) c.loop-number.invariant.2 c.in_err-print_limit.ensures.part in
-    search rules
+    let error = err_from_is_err_and c.from_residual.result c.from_residual.ensures.1 in
+    rw (error.1, error.2) (breaks_more g.O.Sink.output c.args.printer.now c.loop-number.printer c.print_limit.new.printer (limit_records n doc) k (limit_record n doc k) c.in_err-print_limit.field-0.0
+    (omega (arith, lt, limits_length n doc)) (limit_at n doc k lt) c.loop-number.invariant.0 c.loop-number.invariant.1 c.in_err-print_limit.ensures.broken)
 
 pub loop-number-preserved : goal.loop-number-preserved
 loop-number-preserved g c =
     let n = c.args.named.now in
     let doc = c.args.doc.now in
     let k = c.loop-number.number in
-    let inv = c.loop-number.invariant in
-    let lt : k < length n.market.pools = search rules in
-    let later = c.print_limit.ensures.later in (
-      c.in_ok-print_limit.ensures.between,
-      omega (arith, inv.1, later),
-      print_more (g.O.Sink.taken c.args.out.now) (g.O.Sink.taken c.loop-number.out) (g.O.Sink.taken c.print_limit.new.out) (held_by c.args.batch.now.writer) (held_by c.loop-number.batch.writer) (held_by c.print_limit.new.batch.writer)
-          (limit_records n doc) k (limit_record n doc k) (omega (arith, lt, limits_length n doc)) (limit_at n doc k lt) inv.2 c.in_ok-print_limit.ensures.text,
+    let lt : k < length n.market.pools = search rules in (
+      keeps_on g.O.Sink.output c.args.printer.now c.loop-number.printer c.print_limit.new.printer c.loop-number.invariant.0 c.print_limit.ensures.keeps,
+      prints_more g.O.Sink.output c.args.printer.now c.loop-number.printer c.print_limit.new.printer (limit_records n doc) k (limit_record n doc k)
+          (omega (arith, lt, limits_length n doc)) (limit_at n doc k lt) c.loop-number.invariant.1 c.in_ok-print_limit.ensures.text,
     )
 
 pub returns-clause-text : goal.returns-clause-text
@@ -35,4 +35,4 @@ returns-clause-text g c =
     let doc = c.args.doc.now in
     let k = c.loop-number.number in
     let past : length n.market.pools ≤ k = search rules in
-    print_all (g.O.Sink.taken c.args.out.now) (g.O.Sink.taken c.loop-number.out) (held_by c.args.batch.now.writer) (held_by c.loop-number.batch.writer) (limit_records n doc) k (omega (arith, past, limits_length n doc)) c.loop-number.invariant.2
+    prints_all g.O.Sink.output c.args.printer.now c.loop-number.printer (limit_records n doc) k (omega (arith, past, limits_length n doc)) c.loop-number.invariant.1

@@ -1,52 +1,48 @@
-use Rattle.std.proofs.Common.{◌∙◌, ap, sym, inr, refl, Err}
-use Rattle.sl_run.specs.Run.{status_of_verdict}
-use Rattle.sl_run.specs.Words.{check}
-use Rattle.sl_run.proofs.Writing.{one_of_both, only_fault, same_failure, write_cause}
+use Rattle.std.proofs.Common.{sym, ap, refl, Err}
+use Rattle.std.proofs.lemmas.Result.{err_from_is_err_and}
+use Rattle.sl_codes.specs.RecordText.{text_of_record}
+use Rattle.sl_doc.specs.VerdictText.{verdict_record}
+use Rattle.sl_run.specs.Words.{check, tables_in, inputs_of}
+use Rattle.sl_run.specs.Ending.{quiet}
+use Rattle.sl_run.specs.Run.{PerformsPart}
+use Rattle.sl_run.proofs.Writing.{write_cause, write_leaves, files_leave}
 use Rattle.sl_run.proofs.check.check_to.Goals as goal
 
-pub returns-in-Ok-clause-checked : goal.returns-in-Ok-clause-checked
-returns-in-Ok-clause-checked g c = λ tells. record {
+pub returns-in_err-named-clause-left : goal.returns-in_err-named-clause-left
+returns-in_err-named-clause-left g c =
+    let out = g.O.Sink.output c.args.out.now in
+    let p = err_from_is_err_and c.from_residual.result c.from_residual.ensures.1 in
+    rw (p.1, p.2) (files_leave _ (PerformsPart (g.S.Shelf.files c.args.shelf.now) (check (tables_in c.args.tables) c.args.document.now) out out) out out c.in_err-named.field-0.0 c.in_err-named.ensures.late refl)
+
+pub returns-in-Ok-clause-carried_out : goal.returns-in-Ok-clause-carried_out
+returns-in-Ok-clause-carried_out g c = λ told. record {
   n = c.in_ok-named.named;
+  held = c.in_ok-named.ensures.held told;
   verdict = c.in_ok-named.verdict;
-  judged = c.in_ok-named.ensures.judged tells;
-  ends = c.verdict_status.ensures.status;
-  written = c.in-Ok.ensures.text;
+  text = text_of_record (verdict_record c.in_ok-named.named c.in_ok-named.verdict);
+  comes = (c.in_ok-named.ensures.judged told, refl);
+  put = c.in-Ok.ensures.text;
+  ends = ap quiet (sym c.verdict_status.ensures);
 }
 
-pub returns-clause-broken_off : goal.returns-clause-broken_off
-returns-clause-broken_off g c = λ failed tells. (
-  status_of_verdict c.in_ok-named.verdict,
-  record {
-    n = c.in_ok-named.named;
-    verdict = c.in_ok-named.verdict;
-    judged = c.in_ok-named.ensures.judged tells;
-    ends = refl;
-    written = c.in-Err.ensures.part;
-  },
-)
+pub returns-in-Ok-clause-done : goal.returns-in-Ok-clause-done
+returns-in-Ok-clause-done g c = (c.in_ok-named.named, c.in_ok-named.verdict, ap quiet (sym c.verdict_status.ensures))
 
-pub returns-clause-partly : goal.returns-clause-partly
-returns-clause-partly g c = λ failed. inr (λ tells. (
-  status_of_verdict c.in_ok-named.verdict,
-  record {
-    n = c.in_ok-named.named;
-    verdict = c.in_ok-named.verdict;
-    judged = c.in_ok-named.ensures.judged tells;
-    ends = refl;
-    written = c.in-Err.ensures.part;
-  },
-))
-
-pub returns-clause-untouched : goal.returns-clause-untouched
-returns-clause-untouched g c = rw c.from.ensures (one_of_both c.in-Err.error _)
+pub returns-clause-left : goal.returns-clause-left
+returns-clause-left g c = rw c.from.ensures
+    (write_leaves _ (PerformsPart (g.S.Shelf.files c.args.shelf.now) (check (tables_in c.args.tables) c.args.document.now) (g.O.Sink.output c.args.out.now) (g.O.Sink.output c.verdict_text.new.out))
+    (g.O.Sink.output c.args.out.now) (g.O.Sink.output c.verdict_text.new.out) c.in-Err.error
+    (λ fault. c.in-Err.ensures.cause (ap Err fault))
+    (λ told. record {
+      n = c.in_ok-named.named;
+      held = c.in_ok-named.ensures.held told;
+      verdict = c.in_ok-named.verdict;
+      text = text_of_record (verdict_record c.in_ok-named.named c.in_ok-named.verdict);
+      comes = (c.in_ok-named.ensures.judged told, refl);
+      put = c.in-Err.ensures.part;
+      ends = tt;
+    }))
 
 pub returns-clause-cause : goal.returns-clause-cause
-returns-clause-cause g c =
-    let shelf = c.args.shelf.now in
-    let command = check c.args.tables.letter c.args.tables.pools.now c.args.tables.programmes.now c.args.tables.applications.now c.args.document.now in
-    rw c.from.ensures
-    (write_cause (g.S.Shelf.tells shelf) (g.S.Shelf.contents shelf) command (g.S.Shelf.faults shelf) (g.S.Shelf.faults c.judge.new.shelf) c.in_ok-named.named c.in-Err.error
-    (λ t. let j = c.in_ok-named.ensures.judged t in let (text, told, few, right) = j.read in (j.held, (text, told, few, (right.0, tt)))))
-
-pub returns-clause-unwritable : goal.returns-clause-unwritable
-returns-clause-unwritable g c = λ failed. let unwritable = same_failure _ _ failed in c.in-Err.ensures.cause (ap Err (only_fault c.in-Err.error (sym c.from.ensures ∙ unwritable)))
+returns-clause-cause g c = rw c.from.ensures
+    (write_cause (inputs_of (check (tables_in c.args.tables) c.args.document.now)) (g.S.Shelf.files c.args.shelf.now) (g.S.Shelf.files c.judge.new.shelf) c.in_ok-named.named c.in-Err.error c.in_ok-named.ensures.held)

@@ -1,55 +1,41 @@
-use Rattle.std.proofs.Common.{Err, inl, inr, refl, ap}
-use Rattle.std.proofs.lemmas.Result.{IfOk-weaker}
-use Rattle.sl_run.specs.declared.failure.Failure.TheVariants.{Unwritable, OutOfMemory}
-use Rattle.sl_run.specs.Words.{clear, check}
-use Rattle.sl_run.proofs.Writing.{same_failure}
+use Rattle.std.proofs.Common.{◌≡◌, refl, sym, inl, inr}
+use Rattle.std.proofs.lemmas.Result.{IfOk-weaker, IfErr-weaker}
+use Rattle.sl_run.specs.Words.{texts_of, command_in}
+use Rattle.sl_run.specs.Run.{PerformsPart, BreaksOff}
+use Rattle.sl_run.proofs.Ending.{low_status, no_words}
+use Rattle.sl_run.proofs.Writing.{leaves_on}
 use Rattle.sl_run.proofs.command.perform.Goals as goal
 
-pub returns-in-Ok-clause-carried_out : goal.returns-in-Ok-clause-carried_out
-returns-in-Ok-clause-carried_out g c = λ tells.
-    let t = c.in-Some.tables in
-    (clear t.letter t.pools.now t.programmes.now t.applications.now, c.in-Some.ensures, (refl, c.in-Ok.ensures.cleared tells))
+pub returns-in-Some-clause-carried_out : goal.returns-in-Some-clause-carried_out
+returns-in-Some-clause-carried_out g c =
+    IfOk-weaker c.carry_out.result _ _ (λ status carried told. (command_in c.in-Some.command, sym c.in-Some.ensures, carried told)) c.carry_out.ensures.carried_out
 
-pub returns-in-Err-clause-broken_off : goal.returns-in-Err-clause-broken_off
-returns-in-Err-clause-broken_off g c = λ failed tells.
-    let t = c.in-Some.tables in
-    let unwritable = same_failure c.in-Err.failure Unwritable failed in
-    (0, (clear t.letter t.pools.now t.programmes.now t.applications.now, c.in-Some.ensures, (refl, c.in-Err.ensures.broken_off (ap Err unwritable) tells)))
+pub returns-in-Some-clause-done : goal.returns-in-Some-clause-done
+returns-in-Some-clause-done g c =
+    IfOk-weaker c.carry_out.result _ _ (λ status done. (command_in c.in-Some.command, sym c.in-Some.ensures, done)) c.carry_out.ensures.done
 
-pub returns-in-Err-clause-partly : goal.returns-in-Err-clause-partly
-returns-in-Err-clause-partly g c = λ failed. let memory = same_failure c.in-Err.failure OutOfMemory failed in elim (c.in-Err.ensures.partly (ap Err memory)) [
-  | inl same ↦ inl same
-  | inr part ↦ inr (λ tells.
-      let t = c.in-Some.tables in
-      (0, (clear t.letter t.pools.now t.programmes.now t.applications.now, c.in-Some.ensures, (refl, part tells))))
-]
+pub returns-in-Some-clause-low : goal.returns-in-Some-clause-low
+returns-in-Some-clause-low g c =
+    IfOk-weaker c.carry_out.result _ _
+    (λ status done. low_status (texts_of c.args.words.now) status (command_in c.in-Some.command, sym c.in-Some.ensures, done)) c.carry_out.ensures.done
 
-pub returns-in-Err-clause-cause : goal.returns-in-Err-clause-cause
-returns-in-Err-clause-cause g c =
-    let t = c.in-Some.tables in
-    inr (clear t.letter t.pools.now t.programmes.now t.applications.now, c.in-Some.ensures, c.in-Err.ensures.cause)
+pub returns-in-Some-clause-left : goal.returns-in-Some-clause-left
+returns-in-Some-clause-left g c =
+    let shelf = g.S.Shelf.files c.args.shelf.now in
+    let before = g.O.Sink.output c.args.out.now in
+    let after = g.O.Sink.output c.carry_out.new.out in
+    let command = command_in c.in-Some.command in
+    IfErr-weaker c.carry_out.result _ _
+    (λ failure left. leaves_on (c.carry_out.new.out ≡ c.args.out.now) (PerformsPart shelf command before after) before after (BreaksOff (texts_of c.args.words.now) shelf before after) failure
+    (λ part told. (command, sym c.in-Some.ensures, part)) left)
+    c.carry_out.ensures.left
 
-pub returns-in-Some-check_tables-clause-command : goal.returns-in-Some-check_tables-clause-command
-returns-in-Some-check_tables-clause-command g c =
-    let t = c.in-Some-check_tables.tables in
-    IfOk-weaker c.check_to.result _ _ (λ status done. (check t.letter t.pools.now t.programmes.now t.applications.now c.in-Some-check_tables.document.now, c.in-Some-check_tables.ensures)) c.check_to.ensures.done
+pub returns-in-Some-clause-cause : goal.returns-in-Some-clause-cause
+returns-in-Some-clause-cause g c =
+    IfErr-weaker c.carry_out.result _ _ (λ failure cause. inr (command_in c.in-Some.command, sym c.in-Some.ensures, cause)) c.carry_out.ensures.cause
 
-pub returns-in-Some-check_tables-clause-carried_out : goal.returns-in-Some-check_tables-clause-carried_out
-returns-in-Some-check_tables-clause-carried_out g c =
-    let t = c.in-Some-check_tables.tables in
-    IfOk-weaker c.check_to.result _ _ (λ status checked tells. (check t.letter t.pools.now t.programmes.now t.applications.now c.in-Some-check_tables.document.now, c.in-Some-check_tables.ensures, checked tells)) c.check_to.ensures.checked
+pub returns-in-Some-clause-unread : goal.returns-in-Some-clause-unread
+returns-in-Some-clause-unread g c = λ failed. absurd (no_words (command_in c.in-Some.command) (g.S.Shelf.files c.args.shelf.now) (g.S.Shelf.files c.carry_out.new.shelf) c.carry_out.result c.carry_out.ensures.cause failed)
 
-pub returns-in-Some-check_tables-clause-broken_off : goal.returns-in-Some-check_tables-clause-broken_off
-returns-in-Some-check_tables-clause-broken_off g c = λ failed tells.
-    let t = c.in-Some-check_tables.tables in
-    let (status, checked) = c.check_to.ensures.broken_off failed tells in
-    (status, (check t.letter t.pools.now t.programmes.now t.applications.now c.in-Some-check_tables.document.now, c.in-Some-check_tables.ensures, checked))
-
-pub returns-in-Some-check_tables-clause-partly : goal.returns-in-Some-check_tables-clause-partly
-returns-in-Some-check_tables-clause-partly g c = λ failed. elim (c.check_to.ensures.partly failed) [
-  | inl same ↦ inl same
-  | inr part ↦ inr (λ tells.
-      let t = c.in-Some-check_tables.tables in
-      let (status, checked) = part tells in
-      (status, (check t.letter t.pools.now t.programmes.now t.applications.now c.in-Some-check_tables.document.now, c.in-Some-check_tables.ensures, checked)))
-]
+pub returns-in-None-clause-cause : goal.returns-in-None-clause-cause
+returns-in-None-clause-cause g c = inl (refl, sym c.in-None.ensures)

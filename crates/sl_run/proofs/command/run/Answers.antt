@@ -1,24 +1,74 @@
-use Rattle.std.proofs.Common.{◌∙◌, sym, ap, map, string_bytes, Err}
-use Rattle.std.specs.Io.KnownBytes.{Appends}
-use Rattle.sl_run.proofs.Ending.{only_output, only_memory, none_refused, refuses, completes}
+use Rattle.std.proofs.Common.{◌≡◌, ◌∙◌, sym, inr}
+use Rattle.sl_io.specs.Sink.{Takes}
+use Rattle.sl_run.specs.Words.{texts_of}
+use Rattle.sl_run.specs.Ending.{IsQuiet}
+use Rattle.sl_run.specs.Run.{BreaksOff}
+use Rattle.sl_run.proofs.Ending.{none_refused, refuses, completes, completed, ended, quiet_end, words_decide}
+use Rattle.sl_run.proofs.Writing.{left_with_5, left_with_6, left_with_less}
 use Rattle.sl_run.proofs.command.run.Goals as goal
 
+pub returns-in-Ok-clause-carried_out : goal.returns-in-Ok-clause-carried_out
+returns-in-Ok-clause-carried_out g c = λ low told.
+    let (command, is, done) = c.in-Ok.ensures.carried_out told in
+    let put = Takes (g.O.Sink.output c.args.out.now) (g.O.Sink.output c.perform.new.out) in
+    (command, is, quiet_end (g.S.Shelf.files c.args.shelf.now) command put c.in-Ok.status (g.E.Sink.output c.args.err.now) done)
+
+pub returns-in-Ok-clause-ended : goal.returns-in-Ok-clause-ended
+returns-in-Ok-clause-ended g c =
+    ended (texts_of c.args.words.now) (g.S.Shelf.files c.args.shelf.now) (g.S.Shelf.files c.perform.new.shelf) c.in-Ok.status (g.E.Sink.output c.args.err.now) c.in-Ok.ensures.done
+
 pub returns-in-Ok-clause-refused : goal.returns-in-Ok-clause-refused
-returns-in-Ok-clause-refused g c = λ tells.
-    none_refused (map (λ w. string_bytes w) c.args.words.now) (g.S.Shelf.contents c.args.shelf.now) (g.S.Shelf.faults c.args.shelf.now) (g.S.Shelf.faults c.perform.new.shelf) c.in-Ok.status
-    (Appends (g.O.Sink.taken c.args.out.now) (g.O.Sink.taken c.perform.new.out)) (c.in-Ok.ensures.carried_out tells)
+returns-in-Ok-clause-refused g c =
+    none_refused (texts_of c.args.words.now) (g.S.Shelf.files c.args.shelf.now) (g.S.Shelf.files c.perform.new.shelf) (g.O.Sink.output c.args.out.now) (g.O.Sink.output c.perform.new.out)
+    (IsQuiet c.in-Ok.status) c.in-Ok.status c.in-Ok.ensures.carried_out
+
+pub returns-in-Ok-clause-completed : goal.returns-in-Ok-clause-completed
+returns-in-Ok-clause-completed g c =
+    completed (texts_of c.args.words.now) (g.S.Shelf.files c.args.shelf.now) (g.S.Shelf.files c.perform.new.shelf) (g.O.Sink.output c.args.out.now) (g.O.Sink.output c.perform.new.out)
+    c.in-Ok.status c.in-Ok.ensures.done
+
+pub returns-in-Err-clause-ended : goal.returns-in-Err-clause-ended
+returns-in-Err-clause-ended g c = inr (c.in-Err.failure, c.in-Err.ensures.cause, (c.status.ensures, c.report.ensures))
+
+pub returns-in-Err-clause-words : goal.returns-in-Err-clause-words
+returns-in-Err-clause-words g c = rw c.status.ensures
+    (words_decide (texts_of c.args.words.now) (g.S.Shelf.files c.args.shelf.now) (g.S.Shelf.files c.perform.new.shelf) c.in-Err.failure c.in-Err.ensures.cause)
+
+pub returns-in-Err-clause-unwritable : goal.returns-in-Err-clause-unwritable
+returns-in-Err-clause-unwritable g c = λ five.
+    let before = g.O.Sink.output c.args.out.now in
+    let after = g.O.Sink.output c.perform.new.out in
+    (left_with_5 (c.perform.new.out ≡ c.args.out.now) (BreaksOff (texts_of c.args.words.now) (g.S.Shelf.files c.args.shelf.now) before after) before after
+    c.in-Err.failure c.in-Err.ensures.left (sym c.status.ensures ∙ five)).0
 
 pub returns-in-Err-clause-broken_off : goal.returns-in-Err-clause-broken_off
-returns-in-Err-clause-broken_off g c = λ five tells. c.in-Err.ensures.broken_off (ap Err (only_output c.in-Err.failure (sym c.status.ensures ∙ five))) tells
+returns-in-Err-clause-broken_off g c = λ five.
+    let before = g.O.Sink.output c.args.out.now in
+    let after = g.O.Sink.output c.perform.new.out in
+    (left_with_5 (c.perform.new.out ≡ c.args.out.now) (BreaksOff (texts_of c.args.words.now) (g.S.Shelf.files c.args.shelf.now) before after) before after
+    c.in-Err.failure c.in-Err.ensures.left (sym c.status.ensures ∙ five)).1
 
 pub returns-in-Err-clause-partly : goal.returns-in-Err-clause-partly
-returns-in-Err-clause-partly g c = λ six. c.in-Err.ensures.partly (ap Err (only_memory c.in-Err.failure (sym c.status.ensures ∙ six)))
+returns-in-Err-clause-partly g c = λ six.
+    let before = g.O.Sink.output c.args.out.now in
+    let after = g.O.Sink.output c.perform.new.out in
+    left_with_6 (c.perform.new.out ≡ c.args.out.now) (BreaksOff (texts_of c.args.words.now) (g.S.Shelf.files c.args.shelf.now) before after) before after
+    c.in-Err.failure c.in-Err.ensures.left (sym c.status.ensures ∙ six)
+
+pub returns-in-Err-clause-nothing : goal.returns-in-Err-clause-nothing
+returns-in-Err-clause-nothing g c = λ low.
+    let before = g.O.Sink.output c.args.out.now in
+    let after = g.O.Sink.output c.perform.new.out in
+    left_with_less (c.perform.new.out ≡ c.args.out.now) (BreaksOff (texts_of c.args.words.now) (g.S.Shelf.files c.args.shelf.now) before after) before after
+    c.in-Err.failure c.in-Err.ensures.left (rw (sym c.status.ensures) low)
 
 pub returns-in-Err-clause-refused : goal.returns-in-Err-clause-refused
-returns-in-Err-clause-refused g c = λ tells. rw c.status.ensures
-    (refuses (map (λ w. string_bytes w) c.args.words.now) (g.S.Shelf.tells c.args.shelf.now) (g.S.Shelf.contents c.args.shelf.now) (g.S.Shelf.faults c.args.shelf.now) (g.S.Shelf.faults c.perform.new.shelf) c.in-Err.failure tells c.in-Err.ensures.cause)
+returns-in-Err-clause-refused g c = rw c.status.ensures
+    (refuses (texts_of c.args.words.now) (g.S.Shelf.files c.args.shelf.now) (g.S.Shelf.files c.perform.new.shelf) c.in-Err.failure c.in-Err.ensures.cause)
 
 pub returns-in-Err-clause-completed : goal.returns-in-Err-clause-completed
-returns-in-Err-clause-completed g c = λ tells. rw c.status.ensures
-    (completes (map (λ w. string_bytes w) c.args.words.now) (g.S.Shelf.tells c.args.shelf.now) (g.S.Shelf.contents c.args.shelf.now) (g.S.Shelf.faults c.args.shelf.now) (g.S.Shelf.faults c.perform.new.shelf) (g.O.Sink.faults c.args.out.now) (g.O.Sink.faults c.perform.new.out)
-    c.in-Err.failure tells c.in-Err.ensures.cause (λ output. c.in-Err.ensures.unwritable (ap Err output)))
+returns-in-Err-clause-completed g c = rw c.status.ensures
+    (completes (texts_of c.args.words.now) (g.S.Shelf.files c.args.shelf.now) (g.S.Shelf.files c.perform.new.shelf) (g.O.Sink.output c.args.out.now) (g.O.Sink.output c.perform.new.out)
+    c.in-Err.failure c.in-Err.ensures.cause (λ five. (left_with_5 (c.perform.new.out ≡ c.args.out.now)
+    (BreaksOff (texts_of c.args.words.now) (g.S.Shelf.files c.args.shelf.now) (g.O.Sink.output c.args.out.now) (g.O.Sink.output c.perform.new.out))
+    (g.O.Sink.output c.args.out.now) (g.O.Sink.output c.perform.new.out) c.in-Err.failure c.in-Err.ensures.left five).0))

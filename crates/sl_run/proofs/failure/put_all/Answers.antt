@@ -17,7 +17,7 @@ returns-in-Err g c =
     let i = c.loop-piece.piece-index in
     let within : i < length pieces = rw (length-map c.args.pieces.now (λ (s : Bor (List ℕ)). s.now)) c.loop-piece-test.true in
     let piece = c.as_bytes.ensures.value ∙ piece_at c.args.pieces.now i _ c.loop-piece-test.true in
-    let part = subst (λ (t : List ℕ). AppendsPart (g.E.Sink.taken c.loop-piece.err) (g.E.Sink.taken c.put.new.self) t) piece c.in-Err.ensures.part in
+    let part = subst (λ (t : List ℕ). AppendsPart (g.E.Sink.output c.loop-piece.err).taken (g.E.Sink.output c.put.new.self).taken t) piece c.in-Err.ensures.part in
     let later = c.loop-piece.invariant.0 in
     let rose = c.in-Err.ensures.cause in
     inr (part_of_line _ _ _ pieces i within c.loop-piece.invariant.1 part, omega (arith, later, rose))
@@ -28,7 +28,7 @@ loop-piece-preserved g c =
     let i = c.loop-piece.piece-index in
     let within : i < length pieces = rw (length-map c.args.pieces.now (λ (s : Bor (List ℕ)). s.now)) c.loop-piece-test.true in
     let piece = c.as_bytes.ensures.value ∙ piece_at c.args.pieces.now i _ c.loop-piece-test.true in
-    let whole = subst (λ (t : List ℕ). Appends (g.E.Sink.taken c.loop-piece.err) (g.E.Sink.taken c.put.new.self) t) piece c.in-Ok.ensures.bytes in
+    let whole = subst (λ (t : List ℕ). Appends (g.E.Sink.output c.loop-piece.err).taken (g.E.Sink.output c.put.new.self).taken t) piece c.in-Ok.ensures.bytes in
     let before = c.loop-piece.invariant.0 in
     let later = c.put.ensures.never_falls in
-    (omega (arith, before, later), subst (Appends (g.E.Sink.taken c.args.err.now) (g.E.Sink.taken c.put.new.self)) (concat_more pieces i within) (Appends-trans _ _ _ _ _ c.loop-piece.invariant.1 whole))
+    (omega (arith, before, later), subst (Appends (g.E.Sink.output c.args.err.now).taken (g.E.Sink.output c.put.new.self).taken) (concat_more pieces i within) (Appends-trans _ _ _ _ _ c.loop-piece.invariant.1 whole))

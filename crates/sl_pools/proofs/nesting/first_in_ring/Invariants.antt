@@ -1,7 +1,0 @@
-use Rattle.std.proofs.Common.{◌≡◌, ◌<◌, ℕ, false}
-use Rattle.sl_types.specs.Rules.{is_in_ring}
-use Rattle.sl_pools.specs.Pools.{pools_alone}
-use Rattle.sl_pools.proofs.nesting.first_in_ring.Given as goal
-
-abbrev pub invariant-pools : goal.invariant-pools
-invariant-pools l = (k : ℕ) → k < l.pool → is_in_ring (pools_alone l.pools) k ≡ false
