@@ -1,6 +1,6 @@
 -- Lists that agree index by index.
 use Rattle.std.proofs.Common.{◌≡◌, ◌<◌, ◌∙◌, ℕ, zero, suc, List, [], ◌∷◌, length, map, refl, ap, arith, slice_index}
-use Rattle.std.proofs.lemmas.List.{get_or-map}
+use Rattle.std.proofs.lemmas.List.{get_or-map, length-map}
 use Rattle.std.proofs.lemmas.List.FromFn.{get_or-map-range_with_len, length-range_with_len, length-map-range_with_len}
 use Rattle.std.specs.List.{position_or_len}
 use Rattle.sl_types.specs.declared.kinds.Entry.{Entry}
@@ -8,10 +8,6 @@ use Rattle.sl_types.specs.Market.{Market, list_of}
 use Rattle.sl_laws.specs.Limits.{Limits, is_eligible, count_in}
 use Rattle.sl_laws.specs.Outcome.{admitted_indexes, counts_in}
 use Rattle.sl_admit.specs.Counting.{chosen_in, counts_of}
-
-length_map : {A : Type 0} (f : A → ℕ) (xs : List A) → length (map f xs) ≡ length xs
-length_map f [] = refl
-length_map f (x ∷ xs) = ap suc (length_map f xs)
 
 -- lists of one length that are the same at each index are the same
 same_lists : (n : ℕ) (xs ys : List ℕ) → length xs ≡ n → length ys ≡ n → ((k : ℕ) → k < n → slice_index xs k ≡ slice_index ys k) → xs ≡ ys
@@ -39,10 +35,10 @@ counts_size market admitted counts is = ap length is ∙ length-map-range_with_l
 -- the indexes of all applicants
 pub all_admissions : (market : Market) (t : Limits) (admitted : List ℕ) → length admitted ≡ length market.lists
     → ((a : ℕ) → a < length market.lists → slice_index admitted a ≡ slice_index (admitted_indexes market t) a) → admitted ≡ admitted_indexes market t
-all_admissions market t admitted each h = same_lists (length market.lists) admitted (admitted_indexes market t) each (length_map _ market.lists) h
+all_admissions market t admitted each h = same_lists (length market.lists) admitted (admitted_indexes market t) each (length-map market.lists _) h
 
 -- the counts of all pools
 pub all_counts : (market : Market) (t : Limits) (counts : List ℕ) → length counts ≡ length market.pools
     → ((P : ℕ) → P < length market.pools → slice_index counts P ≡ slice_index (counts_in market t) P) → counts ≡ counts_in market t
 all_counts market t counts each h =
-    same_lists (length market.pools) counts (counts_in market t) each (length_map (count_in market t) _ ∙ length-range_with_len 0 (length market.pools)) h
+    same_lists (length market.pools) counts (counts_in market t) each (length-map _ (count_in market t) ∙ length-range_with_len 0 (length market.pools)) h

@@ -22,6 +22,7 @@ use Rattle.sl_choices.proofs.Links.{own_push, other_push}
 use Rattle.sl_choices.proofs.Lists.{get_push, get_last, before_or_last}
 use Rattle.sl_codes.proofs.Lists.{agree, first_found}
 use Rattle.sl_choices.proofs.Records.{numbered, code_added, row_right}
+use Rattle.sl_types.proofs.Lists.{none_at}
 
 -- no records keep all of it
 pub kept_none : IsChoiceList (record { codes = []; rows = [] })
@@ -59,11 +60,6 @@ any_filter p q (x ∷ xs) = elim (cases_Bool (q x)) [
   | inl e ↦ rw (e, any_filter p q xs) refl
   | inr e ↦ rw (e, any_filter p q xs) refl
 ]
-
-none_at : {A : Type 0} (p : A → Bool) (xs : List A) (d : A) (k : ℕ) → list_any p xs ≡ false → k < length xs → p (get_or xs k d) ≡ false
-none_at p [] d k h lt = absurd (omega (arith, lt))
-none_at p (x ∷ xs) d zero h lt = (either_false (p x) (list_any p xs) h).0
-none_at p (x ∷ xs) d (suc k) h lt = none_at p xs d k (either_false (p x) (list_any p xs) h).1 (omega (arith, lt))
 
 -- a code that is new has the next number
 new_number : (apps : List (List ℕ)) (code : List ℕ) → has_code apps code ≡ false → number_of (apps ++ code ∷ []) code ≡ Some (length apps)

@@ -5,7 +5,7 @@ use Rattle.std.specs.List.{fold, list_all, list_any}
 use Rattle.std.specs.Str.{bytes_eq}
 use Rattle.std.proofs.lemmas.Bool.{cases_Bool, and_parts}
 use Rattle.std.proofs.lemmas.Slice.Eq.{bytes_eq-Decides}
-use Rattle.std.proofs.lemmas.List.{map-append}
+use Rattle.std.proofs.lemmas.List.{map-append, length-map}
 use Rattle.std.proofs.lemmas.List.Folds.{list_any-append, list_all-append}
 use Rattle.std.proofs.lemmas.List.Sums.{fold_push}
 use Rattle.sl_codes.specs.declared.faults.Cause.TheVariants.{UnknownProgramme}
@@ -17,7 +17,7 @@ use Rattle.sl_codes.specs.Fields.{number_in}
 use Rattle.sl_choices.specs.declared.choices.ChoiceRow.{ChoiceRow}
 use Rattle.sl_choices.specs.Choices.{own_records, applicant_cause, list_cause, place_cause, prog_cause, has_prog, number_among, choice_fields_cause, choice_form, choice_of}
 use Rattle.sl_choices.specs.Rows.{rows_of_app, takes_place, takes_prog, own_cause, row_cause, taken_cause, row_taken, IsDraft}
-use Rattle.sl_codes.proofs.Lists.{length_map, any_map, differ, agree, first_found}
+use Rattle.sl_codes.proofs.Lists.{any_map, differ, agree, first_found}
 use Rattle.sl_choices.proofs.Lists.{place_found, get_push}
 
 -- a code that is there has a number, at which it stands
@@ -147,7 +147,7 @@ fields_alike progs before apps rows row draft =
     let at = numbered more code (code_added apps code) in
     let wide : rows ≡ map (choice_of progs more) before = draft.rows_are ∙ sym (rows_stay progs apps code before draft.known) in
     let mine : rows_of_app at.0 rows ≡ map (choice_of progs more) own = ap (rows_of_app at.0) wide ∙ own_rows progs more code at.0 before at.2 at.3 (known_stay apps code before draft.known) in
-    let count = length_map (choice_of progs more) own in
+    let count = length-map own (choice_of progs more) in
     let places = any_map (choice_of progs more) (λ other. nat_eq other.place (number_in (field_of row 1))) own in
     let named = prog_alike progs more row own (all_own (λ row. has_code progs (field_of row 2)) (λ other. bytes_eq code (field_of other 0)) before draft.named) in
     rw (← draft.apps_are, at.2, mine, count, places, named) refl
@@ -156,7 +156,7 @@ fields_alike progs before apps rows row draft =
 pub causes_alike : (progs : List (List ℕ)) (before : List Record) (apps : List (List ℕ)) (rows : List ChoiceRow) (row : Record) → IsDraft progs before apps rows
     → record_cause (choice_form progs) before row ≡ taken_cause progs apps rows row
 causes_alike progs before apps rows row draft =
-    let count : length rows ≡ length before = ap length draft.rows_are ∙ length_map (choice_of progs apps) before in
+    let count : length rows ≡ length before = ap length draft.rows_are ∙ length-map before (choice_of progs apps) in
     let fields = fields_alike progs before apps rows row draft in
     rw (fields, count) refl
 

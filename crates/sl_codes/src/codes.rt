@@ -28,7 +28,7 @@ impl Model for Codes {
 }
 
 // The number of a code.
-#[tactic(auto, using(crate::proofs::Lists::position_map, crate::proofs::Lists::any_map))]
+#[tactic(auto, using(sl_types::proofs::Lists::position_map, crate::proofs::Lists::any_map))]
 fn place(set: &IndexSet<String>, code: &str) -> Option<usize>
     ensures index { result ≡ number_of (texts set.now.keys) code.now }
     ensures within { IfSome result (λ i. i < length set.now.keys) }
@@ -50,7 +50,7 @@ fn place_of_bytes(set: &IndexSet<String>, code: &[u8]) -> Option<usize>
 }
 
 // How many codes there are.
-#[tactic(auto, using(crate::proofs::Lists::distinct_map, crate::proofs::Lists::length_map))]
+#[tactic(auto, using(crate::proofs::Lists::distinct_map, sl_types::proofs::Lists::length_map))]
 fn count(set: &IndexSet<String>) -> usize
     ensures count { result ≡ length set.now.keys }
     ensures once { IsDistinct bytes_eq (texts set.now.keys) }

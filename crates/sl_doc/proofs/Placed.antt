@@ -14,16 +14,8 @@ use Rattle.sl_types.specs.Market.{Market, list_of}
 use Rattle.sl_types.specs.Rules.{is_misplaced, rises_from, is_out_of_order, is_too_long, has_prog_out}
 use Rattle.sl_types.specs.Valid.{IsValid, at_applicant, size_fault, quota_fault, nesting_fault, programme_fault, list_fault, merit_fault}
 use Rattle.sl_doc.specs.Reading.{is_choice, choice_index}
-
-no_first : (fault : ℕ → Unfit) (first : Option ℕ) → option_map fault first ≡ None → first ≡ None
-no_first fault None h = refl
-no_first fault (Some i) h = cc h
-
--- what no element of a list has
-none_passes : {A : Type 0} (p : A → Bool) (xs : List A) (d : A) (k : ℕ) → list_any p xs ≡ false → k < length xs → p (get_or xs k d) ≡ false
-none_passes p [] d k h lt = absurd (omega (arith, lt))
-none_passes p (x ∷ xs) d zero h lt = (or_parts (p x) (list_any p xs) h).0
-none_passes p (x ∷ xs) d (suc k) h lt = none_passes p xs d k (or_parts (p x) (list_any p xs) h).1 (omega (arith, lt))
+use Rattle.sl_types.proofs.Lists.{none_at}
+use Rattle.sl_types.proofs.Faultless.{no_first}
 
 place_le : {A : Type 0} (p : A → Bool) (xs : List A) (d : A) (k : ℕ) → k < length xs → p (get_or xs k d) ≡ true → position_or_len p xs ≤ k
 place_le p [] d k lt h = absurd (omega (arith, lt))
@@ -67,8 +59,8 @@ in_order market ok a lt =
       rises = not-false (rises_from 0 l) parts.1;
       low = λ k d within.
           let e = get_or l k d in
-          ltb-false MAX_PLACE e.place (or_parts (nat_lt e.place 1) (nat_lt MAX_PLACE e.place) (none_passes is_misplaced l d k parts.0 within)).1;
-      named = λ k d within. leb-false (length market.progs) (get_or l k d).prog.0 (none_passes (λ e. nat_le (length market.progs) e.prog.0) l d k known within);
+          ltb-false MAX_PLACE e.place (or_parts (nat_lt e.place 1) (nat_lt MAX_PLACE e.place) (none_at is_misplaced l d k parts.0 within)).1;
+      named = λ k d within. leb-false (length market.progs) (get_or l k d).prog.0 (none_at (λ e. nat_le (length market.progs) e.prog.0) l d k known within);
     }
 
 -- places above this rise above it

@@ -19,6 +19,7 @@ use Rattle.sl_doc.specs.Drafts.{with_row, with_limit, with_admit, with_closing, 
 use Rattle.sl_doc.specs.Reading.{is_raise, limit_cause, index_of, raise_cause, closing_cause, standing_cause}
 use Rattle.sl_doc.proofs.Indexes.{index_low}
 use Rattle.sl_doc.proofs.Windows.{all_more}
+use Rattle.sl_types.proofs.Lists.{place_lt}
 
 -- a number in which nothing is wrong
 pub in_range : (low high : ℕ) (field : List ℕ) → number_cause low high field ≡ None → (low ≤ number_in field) × (number_in field ≤ high)
@@ -30,14 +31,6 @@ in_range low high field h = at low high (number_of_field field) (unbroken (is_no
       | inl e ↦ let parts = and_parts (nat_le low n) (nat_le n high) e in (leb-true low n parts.0, leb-true n high parts.1)
       | inr e ↦ let no = rw e at h in absurd (true≢false no)
     ]
-
--- a known code has a number
-place_lt : {A : Type 0} (p : A → Bool) (xs : List A) → list_any p xs ≡ true → position_or_len p xs < length xs
-place_lt p [] h = absurd (true≢false (sym h))
-place_lt p (x ∷ xs) h = elim (cases_Bool (p x)) [
-  | inl e ↦ rw e (omega arith)
-  | inr e ↦ let rest = place_lt p xs (rw e at h) in rw e (omega (arith, rest))
-]
 
 pub number_lt : (codes : List (List ℕ)) (code : List ℕ) → has_code codes code ≡ true → unwrap_or (number_of codes code) 0 < length codes
 number_lt codes code h =

@@ -5,7 +5,7 @@ use Rattle.std.specs.List.{list_all, list_any, IsDistinct, AllByRecursion}
 use Rattle.std.specs.List.Sorted.{IsNonDecreasing, IsStrictlyIncreasing}
 use Rattle.std.proofs.lemmas.Bool.{cases_Bool, and_from, and_parts, or_parts, leb-true, leb-false, ltb-true, lt-ltb}
 use Rattle.std.proofs.lemmas.Bool.Decides.{eqb_tells, nat_tests}
-use Rattle.std.proofs.lemmas.List.{get_or-map}
+use Rattle.std.proofs.lemmas.List.{get_or-map, length-map}
 use Rattle.std.proofs.lemmas.List.Sorted.{IsPermutation-map, length_permutation, list_any-IsPermutation}
 use Rattle.std.proofs.lemmas.List.Sums.{sum_by-cons}
 use Rattle.std.proofs.lemmas.Map.Keys.{IsDistinct-IsPermutation, IsStrictlyIncreasing-from_distinct}
@@ -14,7 +14,7 @@ use Rattle.sl_types.specs.declared.kinds.TheConstants.{MAX_POOLS, MAX_PROGRAMMES
 use Rattle.sl_types.specs.Market.{Market, list_of}
 use Rattle.sl_types.specs.Rules.{is_no_pool, is_too_long, has_prog_out, is_misplaced, rises_from, is_out_of_order, has_score_out, names_prog, has_prog_twice}
 use Rattle.sl_types.specs.Valid.{IsValid, nesting_fault, merit_fault, size_fault, quota_fault, programme_fault, list_fault}
-use Rattle.sl_types.proofs.Lists.{none_first}
+use Rattle.sl_types.proofs.Lists.{first_none}
 use Rattle.sl_types.proofs.Alike.{nesting_alike}
 use Rattle.sl_types.proofs.Faultless.{valid_by}
 use Rattle.sl_pools.specs.Pools.{PoolList, IsPoolList}
@@ -56,20 +56,6 @@ not_up_to a b lt = elim (cases_Bool (nat_le a b)) [
 ]
 
 -- a test that fails at each element, by its place
-none_pass : {A : Type 0} (p : A → Bool) (xs : List A) (d : A) → ((k : ℕ) → k < length xs → p (get_or xs k d) ≡ false) → list_any p xs ≡ false
-none_pass p [] d h = refl
-none_pass p (x ∷ xs) d h =
-    let here = h 0 (omega arith) in
-    let later = none_pass p xs d (λ k lt. h (suc k) (omega (arith, lt))) in
-    rw (here, later) refl
-
-no_first : {A : Type 0} (p : A → Bool) (xs : List A) (d : A) → ((k : ℕ) → k < length xs → p (get_or xs k d) ≡ false) → position p xs ≡ None
-no_first p xs d h = none_first p xs (none_pass p xs d h)
-
-length_map : {A B : Type 0} (f : A → B) (xs : List A) → length (map f xs) ≡ length xs
-length_map f [] = refl
-length_map f (x ∷ xs) = ap suc (length_map f xs)
-
 map_map : {A B C : Type 0} (f : A → B) (g : B → C) (xs : List A) → map g (map f xs) ≡ map (λ x. g (f x)) xs
 map_map f g [] = refl
 map_map f g (x ∷ xs) = ap (λ ys. g (f x) ∷ ys) (map_map f g xs)
@@ -118,7 +104,7 @@ rises_by : (low : ℕ) (es : List Entry) → (0 < length es → low < get_or (ma
 rises_by low [] first up = refl
 rises_by low (e ∷ es) first up =
     let here = lt-ltb low e.place (first (omega arith)) in
-    let later = rises_by e.place es (λ more. up 0 (omega (arith, more, length_map (λ (f : Entry). f.place) es))) (rest_rises e.place (map (λ (f : Entry). f.place) es) up) in
+    let later = rises_by e.place es (λ more. up 0 (omega (arith, more, length-map es (λ (f : Entry). f.place)))) (rest_rises e.place (map (λ (f : Entry). f.place) es) up) in
     and_from (nat_lt low e.place) (rises_from e.place es) here later
 
 first_place : (es : List Entry) → list_any is_misplaced es ≡ false → 0 < length es → 0 < get_or (map (λ e. e.place) es) 0 0
@@ -166,11 +152,11 @@ module _ (choices : ChoiceList) (right : IsChoiceList choices) (a : ℕ) (es : L
   twice = never_twice es (carried (λ e. e.prog.0) (rw map_map (progs_once choices a right)))
 
   pub short : length es ≤ MAX_LIST
-  short = let h = right.short a in omega (arith, h, length_permutation _ _ sorted.same, length_map entry_of (rows_of_app a choices.rows))
+  short = let h = right.short a in omega (arith, h, length_permutation _ _ sorted.same, length-map (rows_of_app a choices.rows) entry_of)
 
   numbers_rise : IsNonDecreasing (map (λ e. e.place) es)
   numbers_rise i j d le lt =
-      let n = length_map (λ (e : Entry). e.place) es in
+      let n = length-map es (λ (e : Entry). e.place) in
       let e : Entry = record { place = d; prog = record { 0 = 0 }; score = 0 } in
       let at_i = get_or-map (λ (f : Entry). f.place) es i e d (omega (arith, n, le, lt)) in
       let at_j = get_or-map (λ (f : Entry). f.place) es j e d (omega (arith, n, lt)) in
@@ -238,14 +224,14 @@ module _ (pools : PoolList) (progs : ProgList) (choices : ChoiceList) (market : 
     (sorted : (a : ℕ) → a < length choices.codes → IsSortedOf (chosen a choices.rows) (list_of market a)) where
   -- a test that fails at the choices of each applicant
   in_no_list : (p : List Entry → Bool) → ((a : ℕ) → IsSortedOf (chosen a choices.rows) (list_of market a) → p (list_of market a) ≡ false) → position p market.lists ≡ None
-  in_no_list p h = no_first p market.lists [] (λ a lt. h a (sorted a (omega (arith, lt, each))))
+  in_no_list p h = first_none p market.lists [] (λ a lt. h a (sorted a (omega (arith, lt, each))))
 
   no_size : size_fault market ≡ None
   no_size =
       let sum = few_choices 0 market.lists choices.rows (λ k app lt at.
       let same : k ≡ app = omega (arith, at) in
       let h = sorted app (omega (arith, lt, each, same)) in
-      rw same (omega (arith, length_permutation _ _ h.same, length_map entry_of (rows_of_app app choices.rows)))) in
+      rw same (omega (arith, length_permutation _ _ h.same, length-map (rows_of_app app choices.rows) entry_of))) in
       let a = not_below MAX_POOLS (length market.pools) (omega (arith, pools_right.few, ap length pools_are)) in
       let b = not_below MAX_PROGRAMMES (length market.progs) (omega (arith, progs_right.few, ap length progs_are)) in
       let c = not_below MAX_APPLICANTS (length market.lists) (omega (arith, right.applicants, each)) in
@@ -260,7 +246,7 @@ module _ (pools : PoolList) (progs : ProgList) (choices : ChoiceList) (market : 
 
   no_programme : programme_fault market ≡ None
   no_programme =
-      let none = no_first (is_no_pool market) market.progs (record { 0 = 0 }) (λ k lt.
+      let none = first_none (is_no_pool market) market.progs (record { 0 = 0 }) (λ k lt.
       not_up_to (length market.pools) (get_or market.progs k (record { 0 = 0 })).0
       (omega (arith, within k lt, ap length pools_are, pools_right.each))) in
       rw none refl

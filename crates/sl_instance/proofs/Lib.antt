@@ -5,4 +5,3 @@ pub mod Existence
 pub mod Keys
 pub mod Rows
 pub mod Agreeing
-pub mod Alone

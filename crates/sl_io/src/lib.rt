@@ -5,6 +5,7 @@
 #![tactic(auto)]
 
 mod count;
+mod display;
 mod file_shelf;
 mod mem_shelf;
 mod mem_sink;

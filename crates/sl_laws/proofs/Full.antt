@@ -7,6 +7,7 @@ use Rattle.sl_types.specs.Market.{Market, pool_of, quota_of, lies_in}
 use Rattle.sl_laws.specs.Limits.{Limits, admitted_choice, is_admitted_in, admitted_in, count_in, merit_of, merits_in, least_with, lowest_of, is_full, bar, passes}
 use Rattle.sl_laws.proofs.Lists.{filter_more}
 use Rattle.sl_laws.proofs.Parts.{is_within, admitted_within}
+use Rattle.std.proofs.lemmas.List.{length-map}
 
 least_with_le : (x : ℕ) (ys : List ℕ) → least_with x ys ≤ x
 least_with_le x [] = omega arith
@@ -64,11 +65,6 @@ filter_back p q (x ∷ xs) all h =
       ]
     ]
 
--- a map keeps the length
-pub length_map : {A B : Type 0} (f : A → B) (xs : List A) → length (map f xs) ≡ length xs
-length_map f [] = refl
-length_map f (x ∷ xs) = ap suc (length_map f xs)
-
 module _ (market : Market) (t : Limits) (P : ℕ) where
   merit : List Entry → ℕ
   merit choices = merit_of (admitted_choice market t choices)
@@ -99,7 +95,7 @@ module _ (market : Market) (t : Limits) (P : ℕ) where
   pub lowest_within : (x : ℕ) → 1 ≤ count_in market t P → count_in market t P ≤ length (admitted_within market t P x) → x ≤ lowest_of (merits_in market t P)
   lowest_within x some h = let back = filter_back (is_within market t P x) (is_admitted_in market t P) market.lists
       (All-from_get_or (λ cs. is_within market t P x cs ≡ true → is_admitted_in market t P cs ≡ true) market.lists [] (λ a a_in. within_in x (admitted_choice market t (get_or market.lists a [])))) h in
-      lowest_from x (merits_in market t P) (let l = length_map (λ choices. merit_of (admitted_choice market t choices)) (admitted_in market t P) in omega (arith, l, some))
+      lowest_from x (merits_in market t P) (let l = length-map (admitted_in market t P) (λ choices. merit_of (admitted_choice market t choices)) in omega (arith, l, some))
       (filter_all (λ choices. merit_of (admitted_choice market t choices)) (is_admitted_in market t P) (λ y. x ≤ y) market.lists
       (All-from_get_or (λ cs. is_admitted_in market t P cs ≡ true → x ≤ merit_of (admitted_choice market t cs)) market.lists [] (λ a a_in e. within_merit x (admitted_choice market t (get_or market.lists a [])) (back a [] a_in e))))
 

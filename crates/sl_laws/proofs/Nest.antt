@@ -10,6 +10,7 @@ use Rattle.sl_types.specs.WellFormed.{IsWellFormed}
 use Rattle.sl_laws.specs.Limits.{Limits, with_limit, greatest_of, effective_limit, admitted_directly, demand_within, capped_demand}
 use Rattle.sl_laws.proofs.Lists.{sum_by_filter_le}
 use Rattle.sl_laws.proofs.Effective.{among, with_limit_here}
+use Rattle.sl_types.proofs.Chains.{climb_more}
 
 -- whether D lies directly inside C
 abbrev pub is_child : Market → ℕ → ℕ → Bool
@@ -22,15 +23,6 @@ depth market P = length (chain_of market P)
 outward_of : (f : ℕ → List ℕ) (o : Option PoolId) (C : ℕ) → is_parent C o ≡ true → outward f o ≡ f C
 outward_of f None C e = absurd (true≢false (sym e))
 outward_of f (Some Q) C e = ap f (eqb-true Q.0 C e)
-
-outward_more : (f g : ℕ → List ℕ) (n : ℕ) → ((Q : ℕ) → length (f Q) ≤ n → f Q ≡ g Q) → (o : Option PoolId) → length (outward f o) ≤ n → outward f o ≡ outward g o
-outward_more f g n more None h = refl
-outward_more f g n more (Some Q) h = more Q.0 h
-
-climb_more : (market : Market) (n P : ℕ) → length (climb market (suc n) P) ≤ n → climb market (suc n) P ≡ climb market n P
-unfolding climb
-climb_more market zero P h = absurd (omega arith)
-climb_more market (suc n) P h = ap (λ Qs. P ∷ Qs) (outward_more (climb market (suc n)) (climb market n) n (climb_more market n) (parent_of market P) (omega arith))
 
 -- the greatest of a list is at most z where each number is
 pub greatest_le : (f : ℕ → ℕ) (z : ℕ) (Qs : List ℕ) → ((Q : ℕ) → among Q Qs ≡ true → f Q ≤ z) → greatest_of f Qs ≤ z

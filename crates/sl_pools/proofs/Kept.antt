@@ -13,9 +13,8 @@ use Rattle.sl_types.specs.declared.kinds.Rule.TheVariants.{H, L, Merit}
 use Rattle.sl_types.specs.declared.kinds.TheConstants.{MAX_POOLS, MAX_PROGRAMMES, MAX_QUOTA}
 use Rattle.sl_types.specs.Market.{Market, market_of_pools, no_pool, pool_numbers, rule_of}
 use Rattle.sl_types.specs.Rules.{has_quota_out, has_parent_out, has_parent_where, is_no_pool, is_in_ring, is_too_deep, is_badly_nested, is_merit}
-use Rattle.sl_types.specs.Stage.{is_in_tree, StandAlone}
 use Rattle.sl_types.specs.Valid as Valid
-use Rattle.sl_types.proofs.Lists.{none_fails, none_first}
+use Rattle.sl_types.proofs.Lists.{none_fails, none_first, first_none, place_lt}
 use Rattle.sl_codes.specs.declared.faults.Cause.TheVariants.{BadQuota, UnknownParent, ParentCycle, TooDeep, KindDiffers, RepeatedPool, RepeatedProgramme, UnknownPool}
 use Rattle.sl_codes.specs.declared.faults.Table.TheVariants.{Pools}
 use Rattle.sl_codes.specs.Faults.{new_code_cause, name_cause, first_fault, pass_fault}
@@ -24,9 +23,8 @@ use Rattle.sl_codes.specs.Records.{Record, field_of, codes_of}
 use Rattle.sl_codes.proofs.FirstFault.{neither, unbroken, new_code_right, right_file, all_mapped}
 use Rattle.sl_pools.specs.Pools.{pool_form, quota_cause, pool_unlinked, pool_of, pools_of, parents_fault, first_pool_fault, nesting_fault, IsPoolList, parents_of, is_unknown_parent}
 use Rattle.sl_pools.specs.Programmes.{programme_form, programmes_of, pool_named, IsProgList}
-use Rattle.sl_pools.proofs.Firsts.{first_none}
 use Rattle.sl_pools.proofs.Links.{AreLinked, rows_linked}
-use Rattle.sl_pools.proofs.Rows.{length_map}
+use Rattle.std.proofs.lemmas.List.{length-map}
 
 -- a table of programmes
 pub prog_list : (pools : List (List ℕ)) (records : List Record) → first_fault (programme_form pools) records ≡ None → length (drop 1 records) ≤ MAX_PROGRAMMES
@@ -36,8 +34,8 @@ prog_list pools records right few =
     let coded = right_file (programme_form pools) (λ row. is_code (field_of row 0))
     (λ before row h. new_code_right RepeatedProgramme (codes_of before) (field_of row 0) (neither (new_code_cause RepeatedProgramme (codes_of before) (field_of row 0)) (name_cause UnknownPool pools (field_of row 1)) h).0) records right in
     record {
-      each = length_map (λ row. field_of row 0) rows ∙ sym (length_map (pool_named pools) rows);
-      few = rw (length_map (pool_named pools) rows) few;
+      each = length-map rows (λ row. field_of row 0) ∙ sym (length-map rows (pool_named pools));
+      few = rw (length-map rows (pool_named pools)) few;
       coded = all_mapped (λ row. field_of row 0) is_code rows coded;
     }
 
@@ -107,30 +105,6 @@ nested_right pools linked h =
     let out = linked_inside pools linked in
     (rw (out, ring, deep, nested) refl, nested)
 
-not_merit : (rule : Rule) → rule ≢ Merit → is_merit rule ≡ false
-not_merit H h = refl
-not_merit L h = refl
-not_merit Merit h = absurd (h refl)
-
--- pools of one rule that isn't Merit have no parent where none is badly nested
-stand_alone : (rule : Rule) (codes : List (List ℕ)) (rows : List Record) (market : Market) → rule ≢ Merit
-    → position (is_badly_nested market) (map (pool_of rule codes) rows) ≡ None → StandAlone (map (pool_of rule codes) rows)
-stand_alone rule codes rows market apart nested =
-    first_none is_in_tree (map (pool_of rule codes) rows) no_pool
-    (λ k lt. alone market (get_or (map (pool_of rule codes) rows) k no_pool) (ruled rule codes rows k (not_merit rule apart)) (none_fails (is_badly_nested market) (map (pool_of rule codes) rows) nested k no_pool lt))
-  where
-    ruled : (rule : Rule) (codes : List (List ℕ)) (rows : List Record) (k : ℕ) → is_merit rule ≡ false → is_merit (get_or (map (pool_of rule codes) rows) k no_pool).rule ≡ false
-    ruled rule codes [] k h = refl
-    ruled rule codes (row ∷ rows) zero h = h
-    ruled rule codes (row ∷ rows) (suc k) h = ruled rule codes rows k h
-
-    in_none : (market : Market) (merit : Bool) (o : Option PoolId) → merit ≡ false → has_parent_where (λ Q. not (merit && is_merit (rule_of market Q.0))) o ≡ false → (is_some o || merit) ≡ false
-    in_none market merit None h nested = h
-    in_none market merit (Some Q) h nested = let yes = rw h at nested in absurd (true≢false yes)
-
-    alone : (market : Market) (pool : Pool) → is_merit pool.rule ≡ false → is_badly_nested market pool ≡ false → is_in_tree pool ≡ false
-    alone market pool h nested = in_none market (is_merit pool.rule) pool.parent h nested
-
 -- a table of pools
 pub pool_list : (rule : Rule) (records : List Record) → first_pool_fault rule records ≡ None → length (drop 1 records) ≤ MAX_POOLS
     → IsPoolList (pools_of rule (drop 1 records))
@@ -146,33 +120,17 @@ pool_list rule records right few =
     let none = none_first has_quota_out (pools_of rule rows).pools ranged_all in
     let nested = nested_right (pools_of rule rows).pools (rows_linked rule rows) passes.1 in
     record {
-      each = length_map (λ row. field_of row 0) rows ∙ sym (length_map (pool_of rule (codes_of rows)) rows);
-      few = rw (length_map (pool_of rule (codes_of rows)) rows) few;
+      each = length-map rows (λ row. field_of row 0) ∙ sym (length-map rows (pool_of rule (codes_of rows)));
+      few = rw (length-map rows (pool_of rule (codes_of rows))) few;
       coded = all_mapped (λ row. field_of row 0) is_code rows coded;
       quotas = rw none refl;
       nesting = nested.0;
     }
 
--- pools of kind `score` alone
-pub pools_stand_alone : (rule : Rule) (records : List Record) → rule ≢ Merit → first_pool_fault rule records ≡ None → StandAlone (pools_of rule (drop 1 records)).pools
-pools_stand_alone rule records apart right =
-    let rows = drop 1 records in
-    let both = neither (first_fault pool_form records) (parents_fault rule rows) right in
-    let passes = neither (pass_fault Pools UnknownParent (position (is_unknown_parent (codes_of rows)) (parents_of rows))) (nesting_fault (pools_of rule rows).pools) both.1 in
-    let nested = nested_right (pools_of rule rows).pools (rows_linked rule rows) passes.1 in
-    stand_alone rule (codes_of rows) rows (market_of_pools (pools_of rule rows).pools) apart nested.1
-
-any_first : {A : Type 0} (p : A → Bool) (xs : List A) → list_any p xs ≡ true → position_or_len p xs < length xs
-any_first p [] h = absurd (true≢false (sym h))
-any_first p (x ∷ xs) h = elim (cases_Bool (p x)) [
-  | inl e ↦ rw e (omega arith)
-  | inr e ↦ let later = any_first p xs (rw e at h) in rw e (omega (arith, later))
-]
-
 -- the pool that is named is one of the pools
 named_below : (pools : List (List ℕ)) (row : Record) → has_code pools (field_of row 1) ≡ true → nat_lt (pool_named pools row).0 (length pools) ≡ true
 named_below pools row h =
-    let lt = any_first (bytes_eq (field_of row 1)) pools h in
+    let lt = place_lt (bytes_eq (field_of row 1)) pools h in
     let less = lt-ltb (position_or_len (bytes_eq (field_of row 1)) pools) (length pools) lt in
     rw (less, less) refl
 

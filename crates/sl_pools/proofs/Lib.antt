@@ -1,4 +1,3 @@
-mod Firsts
 mod Kept
 mod Links
 mod Rows

@@ -1,7 +1,7 @@
 -- Pools that are given the parents that their fields name.
 use Rattle.std.proofs.Common.{◌≡◌, ◌∙◌, ◌<◌, ◌≤◌, ◌+◌, ◌++◌, ℕ, zero, suc, List, [], ◌∷◌, map, take, drop, set, length, get_or, Option, Some, None, option_map, refl, sym, ap, arith, inl, inr, append_assoc, append-nil, add-one, drop-cons}
 use Rattle.std.proofs.lemmas.Bool.{cases_Bool}
-use Rattle.std.proofs.lemmas.List.{take_more_set, drop-set-lt, take_all, drop_all}
+use Rattle.std.proofs.lemmas.List.{take_more_set, drop-set-lt, take_all, drop_all, length-map}
 use Rattle.std.proofs.lemmas.List.Quantifiers.{position-Some}
 use Rattle.sl_types.specs.declared.kinds.Pool.{Pool}
 use Rattle.sl_types.specs.declared.kinds.PoolId.{PoolId}
@@ -12,7 +12,6 @@ use Rattle.sl_codes.specs.Codes.{number_of}
 use Rattle.sl_codes.specs.Faults.{first_fault}
 use Rattle.sl_codes.specs.Records.{Record, field_of, codes_of}
 use Rattle.sl_pools.specs.Pools.{PoolList, linked, parent_named, is_empty_field, parents_of, pool_unlinked, pool_of, pools_of, pool_form, first_pool_fault, link_fault}
-use Rattle.sl_pools.proofs.Rows.{length_map}
 
 -- each parent is a pool of the list
 abbrev pub AreLinked : List Pool → Type 0
@@ -100,6 +99,6 @@ same_list codes others pools ones c p = rw (c, p) refl
 pub rows_linked : (rule : Rule) (rows : List Record) → AreLinked (pools_of rule rows).pools
 rows_linked rule rows =
     let codes = codes_of rows in
-    let alone : length (map (pool_unlinked rule) rows) ≡ length rows = length_map (pool_unlinked rule) rows in
+    let alone : length (map (pool_unlinked rule) rows) ≡ length rows = length-map rows (pool_unlinked rule) in
     rw (← linked_rows rule codes rows) (are_linked codes (parents_of rows) (map (pool_unlinked rule) rows)
-    (length_map (λ row. field_of row 0) rows ∙ sym alone) (length_map (λ row. field_of row 2) rows ∙ sym alone))
+    (length-map rows (λ row. field_of row 0) ∙ sym alone) (length-map rows (λ row. field_of row 2) ∙ sym alone))

@@ -1,6 +1,6 @@
 -- Records of the two tables, taken one after another.
 use Rattle.std.proofs.Common.{◌≡◌, ◌∙◌, sym, ap, refl, ℕ, ◌<◌, Bool, not, List, [], ◌∷◌, ◌++◌, length, map, None}
-use Rattle.std.proofs.lemmas.List.{map-append}
+use Rattle.std.proofs.lemmas.List.{map-append, length-map}
 use Rattle.sl_types.specs.declared.kinds.TheConstants.{MAX_PROGRAMMES}
 use Rattle.sl_codes.specs.declared.faults.Cause.TheVariants.{RepeatedProgramme, UnknownPool}
 use Rattle.sl_codes.specs.Codes.{has_code}
@@ -9,13 +9,9 @@ use Rattle.sl_codes.specs.Records.{Record, field_of, codes_of}
 use Rattle.sl_codes.proofs.FirstFault.{record_cause-fields}
 use Rattle.sl_pools.specs.Programmes.{programme_form}
 
-pub length_map : {A B : Type 0} (f : A → B) (xs : List A) → length (map f xs) ≡ length xs
-length_map f [] = refl
-length_map f (x ∷ xs) = rw (length_map f xs) refl
-
 -- there are as many codes as records
 pub length-codes_of : (rows : List Record) → length (codes_of rows) ≡ length rows
-length-codes_of rows = length_map (λ row. field_of row 0) rows
+length-codes_of rows = length-map rows (λ row. field_of row 0)
 
 -- a programme with a new code is right where its pool is known
 pub programme_cause : (pools codes : List (List ℕ)) (before : List Record) (row : Record) (known : Bool) → codes ≡ codes_of before → length row ≡ 2 → length codes < MAX_PROGRAMMES

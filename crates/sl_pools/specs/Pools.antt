@@ -1,11 +1,12 @@
 -- The pool table: its form, the passes over the whole file, and what it holds.
-use Rattle.std.specs.Prelude.{◌≡◌, ◌≤◌, length, ℕ, Bool, true, ◌&&◌, not, List, [], ◌∷◌, map, codes, unwrap_or, position, is_none, cond, drop, Option, None, option_map, MatchOption, false}
+use Rattle.std.specs.Prelude.{◌≡◌, ◌≤◌, length, ℕ, Bool, true, ◌&&◌, ◌||◌, not, List, [], ◌∷◌, map, codes, unwrap_or, position, is_none, cond, drop, Option, None, option_map, MatchOption, false}
 use Rattle.std.specs.Option.{option_or}
 use Rattle.std.specs.List.{list_all}
 use Rattle.std.specs.Str.{bytes_eq}
 use Rattle.sl_types.specs.declared.kinds.Pool.{Pool}
 use Rattle.sl_types.specs.declared.kinds.PoolId.{PoolId}
 use Rattle.sl_types.specs.declared.kinds.Rule.{Rule}
+use Rattle.sl_types.specs.declared.kinds.Rule.TheVariants.{Merit}
 use Rattle.sl_types.specs.declared.kinds.TheConstants.{MAX_POOLS, MAX_QUOTA}
 use Rattle.sl_types.specs.Market.{market_of_pools}
 use Rattle.sl_types.specs.Valid as Valid
@@ -37,9 +38,16 @@ quota_cause field =
 abbrev pub parent_cause : List ℕ → Option Cause
 parent_cause field = cond (is_empty_field field) None (code_cause field)
 
--- the kind is `score`; kind `merit` is refused until trees of pools come
+-- the kind is `score` or `merit`
+abbrev pub is_kind : List ℕ → Bool
+is_kind field = bytes_eq field (codes "score") || bytes_eq field (codes "merit")
+
 abbrev pub kind_cause : List ℕ → Option Cause
-kind_cause field = cause_if (not (bytes_eq field (codes "score"))) BadKind
+kind_cause field = cause_if (not (is_kind field)) BadKind
+
+-- the rule of a pool of this kind, where pools of kind `score` have the rule that is given
+abbrev pub rule_of_kind : Rule → List ℕ → Rule
+rule_of_kind rule field = cond (bytes_eq field (codes "merit")) Merit rule
 
 -- `pool,quota,parent,kind`, of which the first is a code that stands in no earlier record
 abbrev pub pool_fields_cause : List Record → Record → Option Cause
@@ -63,7 +71,11 @@ parent_named pools field = cond (is_empty_field field) None (option_map (λ n. r
 
 -- the pool of a record before its parent is known, where pools of kind `score` have this rule
 abbrev pub pool_unlinked : Rule → Record → Pool
-pool_unlinked rule row = record { quota = unwrap_or (number_of_field (field_of row 1)) 0; parent = None; rule = rule }
+pool_unlinked rule row = record {
+  quota = unwrap_or (number_of_field (field_of row 1)) 0;
+  parent = None;
+  rule = rule_of_kind rule (field_of row 3);
+}
 
 -- a pool with this parent
 abbrev pub linked_to : Pool → Option PoolId → Pool

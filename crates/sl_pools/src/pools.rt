@@ -2,13 +2,12 @@ ghost use Rattle.std.specs.Prelude.{◌≡◌, ◌≢◌, ◌≤◌, ◌<◌, �
 ghost use Rattle.std.specs.Option.{option_or};
 ghost use Rattle.csv.specs.Records.{fields_of, partial_of};
 ghost use Rattle.sl_types.specs.declared.kinds.Rule.TheVariants.{Merit};
-ghost use Rattle.sl_types.specs.Stage.{StandAlone};
 ghost use Rattle.sl_codes.specs.Faults.{FailsBy, record_cause, first_fault, pass_fault, IsWrong, IsFirst};
 ghost use Rattle.sl_codes.specs.declared.faults.Cause.TheVariants.{UnknownParent};
 ghost use Rattle.sl_codes.specs.declared.faults.Table.TheVariants.{Pools};
 ghost use Rattle.sl_codes.specs.Fields.{number_of_field};
 ghost use Rattle.sl_codes.specs.Records.{Record, records_of, rows_of, field_of, codes_of};
-ghost use Rattle.sl_pools.specs.Pools.{FindsParent, parent_named, quota_cause, parent_cause, kind_cause, pool_form, pool_unlinked, parents_of, linked, is_unknown_parent, link_fault, pools_of, first_pool_fault, IsPoolList};
+ghost use Rattle.sl_pools.specs.Pools.{FindsParent, parent_named, quota_cause, parent_cause, kind_cause, rule_of_kind, pool_form, pool_unlinked, parents_of, linked, is_unknown_parent, link_fault, pools_of, first_pool_fault, IsPoolList};
 ghost use Rattle.sl_pools.specs.Taking.{IsRightAfter, IsWrongAfter};
 
 use crate::nesting::{nesting_fault, pass_fault};
@@ -98,13 +97,18 @@ fn check_parent(field: &[u8]) -> Result<(), Cause>
     Ok(())
 }
 
-fn check_kind(field: &[u8]) -> Result<(), Cause>
-    ensures { FailsBy (kind_cause field.now) result }
+// The rule of a kind, where pools of kind `score` have the one that is given.
+fn kind_rule(rule: Rule, field: &[u8]) -> Result<Rule, Cause>
+    ensures rule { IfOk result (λ r. r ≡ rule_of_kind rule field.now) }
+    ensures cause { FailsBy (kind_cause field.now) result }
 {
-    if field != "score".as_bytes() {
-        return Err(Cause::BadKind);
+    if field == "merit".as_bytes() {
+        return Ok(Rule::Merit);
     }
-    Ok(())
+    if field == "score".as_bytes() {
+        return Ok(rule);
+    }
+    Err(Cause::BadKind)
 }
 
 impl Draft {
@@ -143,7 +147,7 @@ impl Draft {
         add_code(&mut self.codes, field(row, 0), Cause::RepeatedPool)?;
         let quota = quota(field(row, 1))?;
         check_parent(field(row, 2))?;
-        check_kind(field(row, 3))?;
+        let rule = kind_rule(rule, field(row, 3))?;
         let pool = Pool {
             quota,
             parent: None,
@@ -229,13 +233,11 @@ fn pass_over(
     }
 }
 
-/// Reads a pool table. Pools of kind `score` have the rule that is given; kind `merit` is refused until trees
-/// of pools come.
+/// Reads a pool table. Pools of kind `score` have the rule that is given, H or L.
 pub fn read_pools(alloc: Global, bytes: &[u8], rule: Rule) -> Result<PoolTable, ReadError>
     requires rule { rule ≢ Merit }
     ensures right { OnOk result (first_pool_fault rule (records_of bytes.now) ≡ None) }
     ensures table { IfOk result (λ table. table ≡ pools_of rule (rows_of bytes.now)) }
-    ensures alone { IfOk result (λ table. StandAlone table.pools) }
     ensures refused { IfErr result (IsFirst (first_pool_fault rule (records_of bytes.now))) }
 {
     let Draft {

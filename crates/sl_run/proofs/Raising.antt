@@ -11,7 +11,6 @@ use Rattle.sl_types.specs.Market.{Market, no_pool, pool_at}
 use Rattle.std.specs.Prelude.{◌≢◌, Bool, true, false, ◌&&◌, ◌||◌, not, nat_eq, is_some}
 use Rattle.sl_types.proofs.Lists.{none_fails}
 use Rattle.sl_types.specs.Rules.{is_merit}
-use Rattle.sl_types.specs.Stage.{StandAlone, is_in_tree}
 use Rattle.sl_types.specs.WellFormed.{IsWellFormed}
 use Rattle.sl_laws.specs.Limits.{Limits, with_limit, effective_limit}
 use Rattle.sl_laws.specs.Stable.{IsJustified, IsSettled, Feeds, feeds, leads}
@@ -23,7 +22,8 @@ use Rattle.sl_laws.proofs.Top.{justified_has_top}
 use Rattle.sl_contend.specs.Rule.{IsBest}
 use Rattle.sl_laws.proofs.Ends.{after_raises-push, EachRaise-push}
 use Rattle.sl_check.specs.Verdict.{AreSettled}
-use Rattle.sl_run.specs.Clearing.{AreFresh, AreScorePools, is_stale, IsGreatestRaise, LeadTo, room}
+use Rattle.sl_nesting.specs.Published.{ArePublished}
+use Rattle.sl_run.specs.Clearing.{AreFresh, is_stale, IsGreatestRaise, LeadTo, room}
 
 -- the best raise of a pool that is above its effective limit is its greatest
 pub greatest : (market : Market) (t : Limits) (P best : ℕ) → IsBest market t P best → effective_limit market t P < best → IsGreatestRaise market t P best
@@ -39,18 +39,6 @@ greatest market t P best is above = record {
 -- a pool whose best raise isn't above its effective limit is settled
 pub settled_by : (market : Market) (t : Limits) (P best : ℕ) → IsBest market t P best → best ≤ effective_limit market t P → IsSettled market t P
 settled_by market t P best is low just = let high = is.greatest (effective_limit market t P + 1) (omega arith) just in omega (arith, low, high)
-
--- pools of which none is in a tree are score pools
-pub alone_is_score : (market : Market) → StandAlone market.pools → AreScorePools market
-alone_is_score market none P within merit =
-    let pool = pool_at market P in
-    let no : (is_some pool.parent || is_merit pool.rule) ≡ false = none_fails is_in_tree market.pools none P no_pool within in
-    let is_one : is_merit pool.rule ≡ true = rw merit refl in
-    true≢false (sym is_one ∙ second (is_some pool.parent) (is_merit pool.rule) no)
-  where
-    second : (a b : Bool) → (a || b) ≡ false → b ≡ false
-    second false b h = h
-    second true b h = absurd (true≢false h)
 
 -- the greatest raise of a pool goes on from where the raises were
 pub one_raise_more : (market : Market) (limits new_limits : List ℕ) (raises new_raises : List Raise) (r : Raise) → LeadTo market limits raises → r.pool.0 < length market.pools
@@ -81,10 +69,10 @@ room_falls market ok limits new_limits P x within sizes best le =
 
 -- the raises of a clearing that has ended prove the effective limits
 pub ended : (market : Market) (limits published : List ℕ) (raises : List Raise) → LeadTo market limits raises → AreSettled market (slice_index limits)
-    → ((P : ℕ) → P < length market.pools → slice_index published P ≡ effective_limit market (slice_index limits) P) → Proves market raises (slice_index published)
-ended market limits published raises h settled is =
+    → length published ≡ length market.pools → ArePublished market (slice_index limits) published → Proves market raises (slice_index published)
+ended market limits published raises h settled each is =
     let same : slice_index limits ≡ limits_after raises = same_limits (slice_index limits) (limits_after raises) h.reach in
-    (h.replays, λ P within. (subst (λ (t : Limits). IsSettled market t P) same (settled P within), sym (is P within ∙ ap (λ (t : Limits). effective_limit market t P) same)))
+    (h.replays, λ P within. (subst (λ (t : Limits). IsSettled market t P) same (settled P within), sym (is P (rw each within) ∙ ap (λ (t : Limits). effective_limit market t P) same)))
 
 -- before the first raise
 pub at_zeros : (market : Market) (limits : List ℕ) (raises : List Raise) (n : ℕ) → limits ≡ replicate n 0 → n ≡ length market.pools → raises ≡ [] → LeadTo market limits raises

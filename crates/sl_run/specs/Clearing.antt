@@ -2,8 +2,7 @@
 use Rattle.std.specs.Prelude.{Bool, true, false, get_or, ◌≡◌, ◌≢◌, ◌<◌, ◌≤◌, ◌+◌, ◌-◌, ℕ, List, length, sum_by, slice_index, MatchBool}
 use Rattle.sl_types.specs.declared.kinds.Raise.{Raise}
 use Rattle.sl_types.specs.declared.kinds.TheConstants.{MAX_SCORE}
-use Rattle.sl_types.specs.declared.kinds.Rule.TheVariants.{Merit}
-use Rattle.sl_types.specs.Market.{Market, rule_of}
+use Rattle.sl_types.specs.Market.{Market}
 use Rattle.sl_laws.specs.Limits.{Limits, effective_limit}
 use Rattle.sl_laws.specs.Stable.{IsJustified, IsSettled}
 use Rattle.sl_contend.specs.Contention.{Contention, contention_of}
@@ -29,10 +28,6 @@ pub record AreMadeFor (market : Market) (contention : Contention) (counters : Li
   pub contenders : contention ≡ contention_of market
   pub room : HasRoomFor market counters
 
--- each pool is of rule H or L
-abbrev pub AreScorePools : Market → Type 0
-AreScorePools market = (P : ℕ) → P < length market.pools → rule_of market P ≢ Merit
-
 -- how far the limits can still rise, all together
 abbrev pub room : List ℕ → ℕ
 room limits = sum_by (λ y. MAX_SCORE + 1 - y) limits
@@ -41,11 +36,6 @@ room limits = sum_by (λ y. MAX_SCORE + 1 - y) limits
 abbrev pub KeepsOthers : Clearing → Clearing → ℕ → Type 0
 KeepsOthers old new P =
     (Q : ℕ) → Q ≢ P → slice_index new.limits.items Q ≡ slice_index old.limits.items Q
-
--- the published limits of these numbers are their effective limits
-abbrev pub ArePublished : Market → List ℕ → List ℕ → Type 0
-ArePublished market limits published =
-    (P : ℕ) → P < length market.pools → slice_index published P ≡ effective_limit market (slice_index limits) P
 
 -- where a pool was raised the limits can rise less than before, and else P holds
 abbrev pub RoseOr : List ℕ → List ℕ → Type 0 → Bool → Type 0

@@ -4,7 +4,6 @@ ghost use Rattle.sl_check.specs.Verdict.{IsVerdict};
 ghost use Rattle.sl_codes.specs.declared.faults.Table.TheVariants.{Results};
 ghost use Rattle.sl_doc.specs.Document.{IsInRange};
 ghost use Rattle.sl_doc.specs.VerdictText.{NamesWithin};
-ghost use Rattle.sl_run.specs.Clearing.{AreScorePools};
 ghost use Rattle.sl_run.specs.Words.{check, inputs_of, letter_rule, tables_in};
 ghost use Rattle.sl_run.specs.Accepted.{IsTold, AreReadAs, document_fault};
 ghost use Rattle.sl_run.specs.Fetching.{Reads, GivesDocument, IsFileCause};
@@ -12,7 +11,6 @@ ghost use Rattle.sl_run.specs.Causes.{IsCause};
 ghost use Rattle.sl_run.specs.Ending.{IsDoneQuietly, status_of_verdict};
 ghost use Rattle.sl_run.specs.Run.{IsJudged, Performs, LeavesOf, is_of_files};
 
-use crate::by_pool::ByPool;
 use crate::failure::Failure;
 use crate::files::{fetch, read_tables};
 use crate::words::{Letter, Tables};
@@ -22,6 +20,7 @@ use sl_contend::Contenders;
 use sl_doc::{Doc, read_doc, verdict_text};
 use sl_instance::Named;
 use sl_io::{Shelf, Sink};
+use sl_nested::Mixed;
 use sl_types::OutOfMemory;
 use std::alloc::Global;
 
@@ -52,7 +51,6 @@ fn fetch_result<S: Shelf>(
 fn verdict_on(alloc: Global, named: &Named, doc: &Doc) -> Result<Verdict, OutOfMemory>
     requires in_range { IsInRange named.now doc.now }
     requires few { length doc.now.raises < 2 ^ 32 }
-    requires alone { AreScorePools named.now.market }
     ensures verdict { let d = doc.now in
         IfOk result (IsVerdict named.now.market d.raises d.limits d.admitted d.counts) }
     ensures within { IfOk result (NamesWithin named.now) }
@@ -61,7 +59,7 @@ fn verdict_on(alloc: Global, named: &Named, doc: &Doc) -> Result<Verdict, OutOfM
     let contenders = Contenders::new(alloc, instance)?;
     check(
         alloc,
-        &ByPool,
+        &Mixed,
         instance,
         &contenders,
         &doc.raises,

@@ -5,10 +5,12 @@ ghost use Rattle.sl_laws.specs.Raises.{Proves};
 ghost use Rattle.sl_contend.specs.Contention.{contention_of};
 ghost use Rattle.sl_contend.specs.Rule.{CoversAll};
 ghost use Rattle.sl_check.specs.Verdict.{AreSettled};
-ghost use Rattle.sl_run.specs.Clearing.{AreFresh, AreMadeFor, ArePublished, KeepsOthers, is_stale, IsGreatestRaise, IsUnderWay, RoseOr};
+ghost use Rattle.sl_nesting.specs.Published.{ArePublished};
+ghost use Rattle.sl_run.specs.Clearing.{AreFresh, AreMadeFor, KeepsOthers, is_stale, IsGreatestRaise, IsUnderWay, RoseOr};
 
 use sl_contend::{Contenders, RaiseRule, Scratch};
 use sl_laws::plain_eff;
+use sl_nesting::published;
 use sl_types::{Instance, OutOfMemory, PoolId, Raise};
 use std::alloc::Global;
 
@@ -172,19 +174,21 @@ fn visit_each<R: RaiseRule>(
 }
 
 // The effective limits of the pools.
-fn publish(alloc: Global, instance: &Instance, limits: &[u32]) -> Result<Vec<u32>, OutOfMemory>
+fn effective_limits(
+    alloc: Global,
+    instance: &Instance,
+    limits: &[u32],
+) -> Result<Vec<u32>, OutOfMemory>
     requires { length limits.now ≡ length instance.now.pools }
     ensures each { IfOk result (λ v. length v.items ≡ length instance.now.pools) }
-    ensures effective { IfOk result (λ v. ArePublished instance.now limits.now v.items) }
+    ensures effective { let t = slice_index limits.now in
+        IfOk result (λ v. ArePublished instance.now t v.items) }
 {
-    let mut published = Vec::new(alloc);
-    for number in 0..instance.pools() {
-        let limit = plain_eff(instance, limits, PoolId(number as u32));
-        if published.push(limit).is_err() {
-            return Err(OutOfMemory);
-        }
-    }
-    Ok(published)
+    let Ok(mut effective) = vec![in alloc; 0; instance.pools()] else {
+        return Err(OutOfMemory);
+    };
+    published(instance, limits, &mut effective);
+    Ok(effective)
 }
 
 /// The least stable limits, and raises that prove them: round after round over the pools in rising order,
@@ -222,7 +226,7 @@ pub fn clear<R: RaiseRule>(
         &mut scratch,
         &mut stale,
     )? {}
-    let limits = publish(alloc, instance, &clearing.limits)?;
+    let limits = effective_limits(alloc, instance, &clearing.limits)?;
     Ok(Clearing {
         limits,
         raises: clearing.raises,

@@ -1,11 +1,9 @@
 ghost use Rattle.std.specs.Prelude.{◌≡◌, ◌≤◌, ◌<◌, true, None, Some, length, All, IfOk, IfErr};
 ghost use Rattle.sl_io.specs.Shelf.{KeepsFiles};
-ghost use Rattle.sl_types.specs.Stage.{StandAlone};
 ghost use Rattle.sl_types.specs.Valid.{IsValid};
 ghost use Rattle.sl_codes.specs.declared.faults.Table.TheVariants as table;
 ghost use Rattle.sl_instance.specs.Assembly.{IsKnown};
 ghost use Rattle.sl_instance.specs.NamedMarket.{IsNamed};
-ghost use Rattle.sl_run.specs.Clearing.{AreScorePools};
 ghost use Rattle.sl_run.specs.Words.{inputs_in, letter_rule};
 ghost use Rattle.sl_run.specs.Accepted.{AreReadAs, pool_fault, programme_fault, choice_fault, application_fault};
 ghost use Rattle.sl_run.specs.Causes.{IsCause};
@@ -54,7 +52,6 @@ fn fetch_pools<S: Shelf>(
     ensures cause { let first = pool_fault (letter_rule letter) in
         IfErr result
         (IsFileCause table.Pools first (S.files shelf.old) (S.files shelf.new) name.now) }
-    ensures alone { IfOk result (λ t. StandAlone t.pools) }
     ensures keeps { KeepsFiles (S.files shelf.old) (S.files shelf.new) }
 {
     let bytes = fetch(alloc, shelf, Table::Pools, name)?;
@@ -133,7 +130,6 @@ fn fetch_instance<S: Shelf>(
 }
 
 /// The instance of three files, each fetched and read before the next.
-#[tactic(auto, using(crate::proofs::Raising::alone_is_score))]
 pub fn read_tables<S: Shelf>(
     alloc: Global,
     tables: Tables<'_>,
@@ -144,7 +140,6 @@ pub fn read_tables<S: Shelf>(
         IfErr result (IsCause inputs (S.files shelf.old) (S.files shelf.new)) }
     ensures valid { IfOk result (λ n. IsValid n.market) }
     ensures named { IfOk result IsNamed }
-    ensures alone { IfOk result (λ n. AreScorePools n.market) }
     ensures late { IfErr result (λ failure. is_of_files failure ≡ true) }
     ensures keeps { KeepsFiles (S.files shelf.old) (S.files shelf.new) }
 {

@@ -1,7 +1,6 @@
 //! The top call of `scorelimits`: from the words of a command to what it writes.
 #![tactic(auto)]
 
-mod by_pool;
 mod check;
 mod clear;
 mod clearing;

@@ -1,14 +1,13 @@
 ghost use Rattle.std.specs.Prelude.{IfOk};
 ghost use Rattle.sl_doc.specs.Document.{IsInRange};
-ghost use Rattle.sl_run.specs.Clearing.{AreScorePools};
 ghost use Rattle.sl_run.specs.Result.{IsResultOf};
 
-use crate::by_pool::ByPool;
 use crate::clearing::clear;
 use sl_admit::{admissions, counts};
 use sl_contend::Contenders;
 use sl_doc::Doc;
 use sl_instance::Named;
+use sl_nested::Mixed;
 use sl_types::{Instance, OutOfMemory};
 use std::alloc::Global;
 use std::thread::Threads;
@@ -19,11 +18,10 @@ fn outcome_of(
     alloc: Global,
     instance: &Instance,
 ) -> Result<Doc, OutOfMemory>
-    requires { AreScorePools instance.now }
     ensures { IfOk result (IsResultOf instance.now) }
 {
     let contenders = Contenders::new(alloc, instance)?;
-    let clearing = clear(alloc, &ByPool, instance, &contenders)?;
+    let clearing = clear(alloc, &Mixed, instance, &contenders)?;
     let admitted = admissions(rt, alloc, instance, &clearing.limits)?;
     let counts = counts(alloc, instance, &admitted)?;
     Ok(Doc {
@@ -41,7 +39,6 @@ pub fn result_of(
     alloc: Global,
     named: &Named,
 ) -> Result<Doc, OutOfMemory>
-    requires { AreScorePools named.now.market }
     ensures result { IfOk result (IsResultOf named.now.market) }
     ensures in_range { IfOk result (IsInRange named.now) }
 {

@@ -9,6 +9,7 @@ mod checking;
 mod clearing;
 mod faults;
 mod fetching;
+mod nesting;
 mod refusals;
 mod replaying;
 mod verdicts;

@@ -9,4 +9,3 @@ pub mod Rings
 pub mod Roots
 pub mod Ties
 pub mod ByTrees
-pub mod Flat

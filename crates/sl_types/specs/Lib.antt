@@ -5,4 +5,3 @@ pub mod Steps
 pub mod Trees
 pub mod Valid
 pub mod WellFormed
-pub mod Stage

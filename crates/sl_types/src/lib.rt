@@ -1,6 +1,7 @@
 //! The types of a round of admissions, and the instance that holds one whose tables fit together.
 #![tactic(auto)]
 
+mod display;
 mod faults;
 mod instance;
 mod kinds;

@@ -2,13 +2,13 @@ use super::*;
 
 // Tables, and the document that a letter makes of them.
 #[derive(Clone, Copy)]
-struct Case {
-    name: &'static str,
-    letter: &'static str,
-    pools: &'static str,
-    programmes: &'static str,
-    applications: &'static str,
-    text: &'static str,
+pub struct Case {
+    pub name: &'static str,
+    pub letter: &'static str,
+    pub pools: &'static str,
+    pub programmes: &'static str,
+    pub applications: &'static str,
+    pub text: &'static str,
 }
 
 const TIED: &str = "applicant,place,programme,score\nx,1,a,10\ny,1,a,10\nz,1,a,5\n";
@@ -29,7 +29,10 @@ const FACULTIES: Case = Case {
 };
 
 // Clears, and checks the document that comes of it.
-fn expect_cleared<R: Abort + AllocGlobal + Threads + Sync>(rt: &R, case: Case) -> Result<(), Fail> {
+pub fn expect_cleared<R: Abort + AllocGlobal + Threads + Sync>(
+    rt: &R,
+    case: Case,
+) -> Result<(), Fail> {
     let inputs = Inputs {
         pools: case.pools.as_bytes(),
         programmes: case.programmes.as_bytes(),

@@ -40,7 +40,6 @@ fn refused_pools(rt: HostRuntime) -> Result<(), Fail> {
             "pools:2: BadQuota\n",
         ),
         ("pool,quota,parent,kind\nA,1,,best\n", "pools:2: BadKind\n"),
-        ("pool,quota,parent,kind\nA,1,,merit\n", "pools:2: BadKind\n"),
         (
             "pool,quota,parent,kind\nA,1,,score\nA,1,,score\n",
             "pools:3: RepeatedPool\n",

@@ -1,7 +1,7 @@
 ghost use Rattle.std.specs.Prelude.{◌≡◌};
 
 use sl_contend::Contenders;
-use sl_flat::HRule;
+use sl_nested::Mixed;
 use sl_proof::{Replay, Unjust};
 use sl_types::{Entry, Instance, Pool, PoolId, ProgId, Raise, Rule};
 use std::alloc::Global;
@@ -51,8 +51,7 @@ fn adds(
     ensures { replay.new.instance ≡ replay.old.instance }
 {
     assert!(rt; (raise.pool.0 as usize) < replay.limits().len());
-    assert!(rt; instance.pool(raise.pool).rule == Rule::H);
-    assert_eq!(rt; replay.add(&HRule, raise), answer);
+    assert_eq!(rt; replay.add(&Mixed, raise), answer);
     assert_eq!(rt; replay.limits(), limits);
 }
 
@@ -75,8 +74,7 @@ fn raises_displaced_twice(rt: HostRuntime) -> Result<(), Fail> {
     }
     for pool in [A, B] {
         assert!(rt; (pool.0 as usize) < replay.limits().len());
-        assert!(rt; instance.pool(pool).rule == Rule::H);
-        assert!(rt; replay.settled(&HRule, pool));
+        assert!(rt; replay.settled(&Mixed, pool));
     }
     Ok(())
 }

@@ -1,10 +1,8 @@
-ghost use Rattle.std.specs.Prelude.{◌≡◌, ◌<◌, ℕ, All, length, IsTrue};
-ghost use Rattle.sl_types.specs.Market.{rule_of};
-ghost use Rattle.sl_types.specs.declared.kinds.Rule.TheVariants.{H};
+ghost use Rattle.std.specs.Prelude.{◌<◌, All, length, IsTrue};
 
 use sl_check::{Verdict, check};
 use sl_contend::Contenders;
-use sl_flat::HRule;
+use sl_nested::Mixed;
 use sl_types::{AppId, Entry, Instance, Pool, PoolId, ProgId, Raise, Rule};
 use std::alloc::Global;
 use std::process::Abort;
@@ -58,18 +56,6 @@ struct Outcome<'a> {
     counts: [u32; 2],
 }
 
-// Whether each pool is of rule H.
-fn are_h(instance: &Instance) -> bool
-    ensures { IsTrue result → (P : ℕ) → P < length instance.now.pools → rule_of instance.now P ≡ H }
-{
-    for number in 0..instance.pools() {
-        if instance.pool(PoolId(number as u32)).rule != Rule::H {
-            return false;
-        }
-    }
-    true
-}
-
 // Whether each raise is of a pool of the instance.
 fn are_within(instance: &Instance, raises: &[Raise]) -> bool
     ensures { IsTrue result → All (λ r. r.pool.0 < length instance.now.pools) raises.now }
@@ -89,11 +75,10 @@ fn checks(
     assert!(rt; are_within(instance, outcome.raises));
     assert!(rt; outcome.raises.len() < 10);
     assert_eq!(rt; outcome.admitted.len(), instance.applicants());
-    assert!(rt; are_h(instance));
     let contenders = Contenders::new(rt.alloc(), instance)?;
     let found = check(
         rt.alloc(),
-        &HRule,
+        &Mixed,
         instance,
         &contenders,
         outcome.raises,

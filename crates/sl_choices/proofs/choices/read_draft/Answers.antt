@@ -5,8 +5,8 @@ use Rattle.sl_codes.proofs.FirstFault.{header_first, read_to-header, read_to-rig
 use Rattle.sl_choices.specs.Choices.{choice_form, choice_of}
 use Rattle.sl_choices.proofs.Kept.{kept_none, kept_push}
 use Rattle.sl_choices.proofs.Records.{causes_alike, prog_known, draft_none, draft_push}
-use Rattle.sl_codes.proofs.Lists.{length_map}
 use Rattle.sl_choices.proofs.choices.read_draft.Goals as goal
+use Rattle.std.proofs.lemmas.List.{length-map}
 
 pub returns-in_err-read_header-clause-refused : goal.returns-in_err-read_header-clause-refused
 returns-in_err-read_header-clause-refused c =
@@ -33,7 +33,7 @@ returns-in-Err-clause-refused c =
     let progs = c.args.progs.now in
     let row = fields_of c.next.new.row in
     let next = rw c.if-branch.true at c.in_ok-next.ensures.ok in
-    let rows = ap length inv.2.rows_are ∙ length_map (choice_of progs c.rows.draft.codes) inv.0 in
+    let rows = ap length inv.2.rows_are ∙ length-map inv.0 (choice_of progs c.rows.draft.codes) in
     let taken : c.len-before.result ≡ length inv.0 = omega (arith, rows) in
     let alike = causes_alike progs inv.0 c.rows.draft.codes c.rows.draft.chains.rows.items row inv.2 in
     rw (c.after.ensures, taken)

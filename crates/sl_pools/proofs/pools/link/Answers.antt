@@ -1,9 +1,9 @@
 use Rattle.std.proofs.Common.{[], arith, below_more}
 use Rattle.csv.specs.Records.{fields_of}
 use Rattle.sl_pools.specs.Pools.{is_unknown_parent}
-use Rattle.sl_pools.proofs.Firsts.{first_found, first_none}
 use Rattle.sl_pools.proofs.Links.{linked_step, linked_all}
 use Rattle.sl_pools.proofs.pools.link.Goals as goal
+use Rattle.sl_types.proofs.Lists.{first_found, first_none}
 
 pub returns-in-None-clause-unknown : goal.returns-in-None-clause-unknown
 returns-in-None-clause-unknown c =

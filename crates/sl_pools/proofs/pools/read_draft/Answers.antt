@@ -4,15 +4,16 @@ use Rattle.sl_types.specs.declared.kinds.TheConstants.{MAX_POOLS}
 use Rattle.sl_codes.specs.Records.{records_of, field_of}
 use Rattle.sl_codes.proofs.FirstFault.{read_to-right, read_to-wrong, read_to-end}
 use Rattle.sl_pools.specs.Pools.{pool_form, pool_unlinked}
-use Rattle.sl_pools.proofs.Rows.{length_map, length-codes_of, map_push}
+use Rattle.sl_pools.proofs.Rows.{length-codes_of, map_push}
 use Rattle.sl_pools.proofs.pools.read_draft.Goals as goal
+use Rattle.std.proofs.lemmas.List.{length-map}
 
 pub returns-in-Err-clause-refused : goal.returns-in-Err-clause-refused
 returns-in-Err-clause-refused c =
     let inv = c.rows.invariant in
     let row = fields_of c.next.new.row in
     let next = rw c.if-branch.true at c.in_ok-next.ensures.ok in
-    let taken : c.len-before.result ≡ length inv.0 = omega (arith, ap length inv.3, length_map (pool_unlinked c.args.rule) inv.0) in
+    let taken : c.len-before.result ≡ length inv.0 = omega (arith, ap length inv.3, length-map inv.0 (pool_unlinked c.args.rule)) in
     rw (c.after.ensures, taken)
     (read_to-wrong pool_form (records_of c.args.bytes.now) inv.0 c.rows.records row c.next.new.self c.in-Err.e inv.1 next (c.in-Err.ensures.wrong inv.0 inv.2))
 

@@ -5,15 +5,16 @@ use Rattle.sl_codes.specs.Records.{records_of, field_of}
 use Rattle.sl_codes.proofs.FirstFault.{read_to-right, read_to-wrong, read_to-end}
 use Rattle.sl_pools.specs.Programmes.{programme_form, pool_named}
 use Rattle.sl_pools.proofs.Kept.{prog_list, progs_within}
-use Rattle.sl_pools.proofs.Rows.{length_map, length-codes_of, map_push}
+use Rattle.sl_pools.proofs.Rows.{length-codes_of, map_push}
 use Rattle.sl_pools.proofs.programmes.read_programmes.Goals as goal
+use Rattle.std.proofs.lemmas.List.{length-map}
 
 pub returns-in-Err-clause-refused : goal.returns-in-Err-clause-refused
 returns-in-Err-clause-refused c =
     let inv = c.rows.invariant in
     let row = fields_of c.next.new.row in
     let next = rw c.if-branch.true at c.in_ok-next.ensures.ok in
-    let taken : c.len-before.result ≡ length inv.0 = omega (arith, ap length inv.3, length_map (pool_named c.args.pools.now.codes) inv.0) in
+    let taken : c.len-before.result ≡ length inv.0 = omega (arith, ap length inv.3, length-map inv.0 (pool_named c.args.pools.now.codes)) in
     let wrong = rw c.codes-in-rows.ensures at c.in-Err.ensures.wrong in
     rw (c.after.ensures, taken)
     (read_to-wrong (programme_form c.args.pools.now.codes) (records_of c.args.bytes.now) inv.0 c.rows.records row c.next.new.self c.in-Err.e inv.1 next (wrong inv.0 inv.2))
