@@ -1,5 +1,5 @@
 -- Numbers and codes that are written are read back.
-use Rattle.std.proofs.Common.{◌≡◌, ◌∙◌, ◌<◌, ◌≤◌, ◌^◌, ◌&&◌, ℕ, Bool, true, cond, nat_le, List, [], ◌∷◌, length, get_or, Some, None, refl, sym, ap, arith}
+use Rattle.std.proofs.Common.{◌≡◌, ◌∙◌, ◌<◌, ◌≤◌, ◌^◌, ◌&&◌, ℕ, Bool, true, cond, nat_le, List, [], length, get_or, Some, None, refl, sym, ap, arith}
 use Rattle.std.specs.Prelude.{unwrap_or}
 use Rattle.std.specs.List.{list_all, position_or_len, IsDistinct}
 use Rattle.std.specs.Char.{is_ascii_digit}

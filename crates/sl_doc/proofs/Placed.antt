@@ -1,14 +1,12 @@
 -- Places on a list rise, so a place tells its choice.
-use Rattle.std.proofs.Common.{◌≡◌, ◌<◌, ◌≤◌, ℕ, zero, suc, Bool, true, false, not, nat_lt, nat_le, nat_eq, List, [], ◌∷◌, length, get_or, position, Option, Some, None, option_map, refl, arith, inl, inr, ltb-true, ltb-false}
+use Rattle.std.proofs.Common.{◌≡◌, ◌<◌, ◌≤◌, ℕ, zero, suc, Bool, true, false, not, nat_lt, nat_le, List, [], ◌∷◌, length, get_or, position, Option, Some, None, refl, arith, inl, inr, ltb-true, ltb-false}
 use Rattle.std.specs.List.{list_any, position_or_len}
 use Rattle.std.proofs.lemmas.Bool.{and_parts, or_parts, cases_Bool, not-false, leb-false}
-use Rattle.std.proofs.lemmas.Bool.Decides.{eqb_tells}
 use Rattle.std.proofs.lemmas.List.Sums.{position_or_len_is}
 use Rattle.sl_codes.proofs.Lists.{differ, agree}
 use Rattle.sl_codes.proofs.FirstFault.{neither}
 use Rattle.sl_types.specs.declared.kinds.Entry.{Entry}
 use Rattle.sl_types.specs.declared.kinds.TheConstants.{MAX_PLACE}
-use Rattle.sl_types.specs.declared.unfit.Unfit.{Unfit}
 use Rattle.sl_types.specs.declared.unfit.Unfit.TheVariants.{ListLength, ProgRange, PlaceOrder}
 use Rattle.sl_types.specs.Market.{Market, list_of}
 use Rattle.sl_types.specs.Rules.{is_misplaced, rises_from, is_out_of_order, is_too_long, has_prog_out}

@@ -1,4 +1,6 @@
-use crate::{FetchError, FileShelf, MemShelf, MemSink, OutSink, Shelf, Sink, SinkFault};
+use crate::{
+    FetchError, FileShelf, MemShelf, MemSink, OutSink, Shelf, Sink, SinkFault, WriteError,
+};
 use std::alloc::{AllocError, Global};
 use std::io::Write;
 use std::process::Abort;
@@ -148,5 +150,18 @@ fn an_out_sink_writes_or_fails_as_its_writer_does(rt: HostRuntime) -> Result<(),
         drop(sink);
         assert_eq!(rt; writer.held.as_slice(), taken);
     }
+    Ok(())
+}
+
+#[test]
+fn errors_for_people(rt: HostRuntime) -> Result<(), Fail> {
+    assert_eq!(rt;
+        format!(in rt.alloc(); "{}", FetchError::TooLong)?.as_str(),
+        "the file is longer than 268435456 bytes"
+    );
+    assert_eq!(rt;
+        format!(in rt.alloc(); "{}", WriteError::from(SinkFault))?.as_str(),
+        "the output cannot be written"
+    );
     Ok(())
 }

@@ -1,5 +1,5 @@
 -- Full pools and their lowest merits.
-use Rattle.std.proofs.Common.{◌≡◌, ℕ, ◌≤◌, suc, min, Bool, true, true≢false, ◌&&◌, cond, nat_le, List, [], ◌∷◌, length, get_or, map, filter, All, Option, Some, None, sym, refl, ap, ◌∙◌, inl, inr, arith}
+use Rattle.std.proofs.Common.{◌≡◌, ℕ, ◌≤◌, suc, min, Bool, true, true≢false, ◌&&◌, cond, nat_le, List, [], ◌∷◌, length, get_or, map, filter, All, Option, Some, None, sym, ap, ◌∙◌, inl, inr, arith}
 use Rattle.std.proofs.lemmas.Bool.{eqb-true, eq-eqb, leb-true, le-leb, and_parts, and_from, cases_Bool}
 use Rattle.std.proofs.lemmas.List.Elements.{All-nil, All-cons, All-head, All-tail, All-weaker, All-from_get_or}
 use Rattle.sl_types.specs.declared.kinds.Entry.{Entry}

@@ -1,6 +1,6 @@
 -- What a table that was read keeps.
-use Rattle.std.proofs.Common.{◌≡◌, ◌≢◌, ◌∙◌, ◌<◌, ◌≤◌, ◌||◌, ◌&&◌, ℕ, Bool, true, false, not, cond, zero, suc, List, [], ◌∷◌, map, drop, length, get_or, nat_lt, nat_le, position, Option, Some, None, is_none, refl, sym, arith, inl, inr, true≢false}
-use Rattle.std.specs.Prelude.{unwrap_or, option_and_then, is_some, All}
+use Rattle.std.proofs.Common.{◌≡◌, ◌∙◌, ◌<◌, ◌≤◌, ◌||◌, ◌&&◌, ℕ, Bool, true, false, not, cond, List, [], ◌∷◌, map, drop, length, get_or, nat_lt, nat_le, position, Option, Some, None, is_none, refl, sym, arith, inl, inr, true≢false}
+use Rattle.std.specs.Prelude.{unwrap_or, option_and_then, All}
 use Rattle.std.specs.List.{list_all, list_any, position_or_len, AllByRecursion}
 use Rattle.std.proofs.lemmas.Bool.{cases_Bool, and_parts, leb-true, ltb-true, lt-ltb}
 use Rattle.std.proofs.lemmas.List.Elements.{All-from_recursion}
@@ -9,12 +9,11 @@ use Rattle.sl_codes.specs.Codes.{has_code}
 use Rattle.sl_types.specs.declared.kinds.Pool.{Pool}
 use Rattle.sl_types.specs.declared.kinds.PoolId.{PoolId}
 use Rattle.sl_types.specs.declared.kinds.Rule.{Rule}
-use Rattle.sl_types.specs.declared.kinds.Rule.TheVariants.{H, L, Merit}
 use Rattle.sl_types.specs.declared.kinds.TheConstants.{MAX_POOLS, MAX_PROGRAMMES, MAX_QUOTA}
-use Rattle.sl_types.specs.Market.{Market, market_of_pools, no_pool, pool_numbers, rule_of}
-use Rattle.sl_types.specs.Rules.{has_quota_out, has_parent_out, has_parent_where, is_no_pool, is_in_ring, is_too_deep, is_badly_nested, is_merit}
+use Rattle.sl_types.specs.Market.{market_of_pools, no_pool, pool_numbers}
+use Rattle.sl_types.specs.Rules.{has_quota_out, has_parent_out, has_parent_where, is_no_pool, is_in_ring, is_too_deep, is_badly_nested}
 use Rattle.sl_types.specs.Valid as Valid
-use Rattle.sl_types.proofs.Lists.{none_fails, none_first, first_none, place_lt}
+use Rattle.sl_types.proofs.Lists.{none_first, first_none, place_lt}
 use Rattle.sl_codes.specs.declared.faults.Cause.TheVariants.{BadQuota, UnknownParent, ParentCycle, TooDeep, KindDiffers, RepeatedPool, RepeatedProgramme, UnknownPool}
 use Rattle.sl_codes.specs.declared.faults.Table.TheVariants.{Pools}
 use Rattle.sl_codes.specs.Faults.{new_code_cause, name_cause, first_fault, pass_fault}

@@ -7,10 +7,8 @@ use Rattle.std.proofs.lemmas.List.{length-replicate}
 use Rattle.std.proofs.lemmas.List.Sums.{sum_by-set}
 use Rattle.sl_types.specs.declared.kinds.TheConstants.{MAX_SCORE}
 use Rattle.sl_types.specs.declared.kinds.Raise.{Raise}
-use Rattle.sl_types.specs.Market.{Market, no_pool, pool_at}
-use Rattle.std.specs.Prelude.{◌≢◌, Bool, true, false, ◌&&◌, ◌||◌, not, nat_eq, is_some}
-use Rattle.sl_types.proofs.Lists.{none_fails}
-use Rattle.sl_types.specs.Rules.{is_merit}
+use Rattle.sl_types.specs.Market.{Market}
+use Rattle.std.specs.Prelude.{◌≢◌, Bool, true, false, ◌&&◌, not, nat_eq}
 use Rattle.sl_types.specs.WellFormed.{IsWellFormed}
 use Rattle.sl_laws.specs.Limits.{Limits, with_limit, effective_limit}
 use Rattle.sl_laws.specs.Stable.{IsJustified, IsSettled, Feeds, feeds, leads}

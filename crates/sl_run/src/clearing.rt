@@ -184,9 +184,7 @@ fn effective_limits(
     ensures effective { let t = slice_index limits.now in
         IfOk result (λ v. ArePublished instance.now t v.items) }
 {
-    let Ok(mut effective) = vec![in alloc; 0; instance.pools()] else {
-        return Err(OutOfMemory);
-    };
+    let mut effective = vec![in alloc; 0; instance.pools()]?;
     published(instance, limits, &mut effective);
     Ok(effective)
 }
@@ -208,12 +206,8 @@ pub fn clear<R: RaiseRule>(
     ensures least { IfOk result (λ c. IsLeastStable instance.now (slice_index c.limits.items)) }
 {
     let mut scratch = Scratch::new(alloc, instance, contenders)?;
-    let Ok(limits) = vec![in alloc; 0; instance.pools()] else {
-        return Err(OutOfMemory);
-    };
-    let Ok(mut stale) = vec![in alloc; true; instance.pools()] else {
-        return Err(OutOfMemory);
-    };
+    let limits = vec![in alloc; 0; instance.pools()]?;
+    let mut stale = vec![in alloc; true; instance.pools()]?;
     let mut clearing = Clearing {
         limits,
         raises: Vec::new(alloc),
@@ -226,9 +220,9 @@ pub fn clear<R: RaiseRule>(
         &mut scratch,
         &mut stale,
     )? {}
-    let limits = effective_limits(alloc, instance, &clearing.limits)?;
+    let effective = effective_limits(alloc, instance, &clearing.limits)?;
     Ok(Clearing {
-        limits,
+        limits: effective,
         raises: clearing.raises,
     })
 }

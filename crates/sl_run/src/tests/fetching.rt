@@ -1,3 +1,5 @@
+ghost use Rattle.std.specs.Prelude.{◌≡◌};
+
 use super::*;
 use sl_io::{FetchError, Shelf};
 
@@ -9,17 +11,25 @@ struct NotedShelf {
     alloc: Global,
 }
 
+impl NotedShelf {
+    fn note(&mut self, name: &str) -> Result<(), AllocError>
+        ensures { self.new.inner ≡ self.old.inner }
+    {
+        let name = String::from_str(self.alloc, name)?;
+        self.asked.push(name)?;
+        Ok(())
+    }
+}
+
 impl Shelf for NotedShelf {
     ghost use Rattle.sl_io.specs.MemFiles.{told};
 
     ghost files = { λ s. told s.inner };
 
+    #[tactic(auto, using(crate::proofs::Accepting::keeps_itself))]
     fn fetch(&mut self, name: &str, into: &mut Vec<u8>) -> Result<(), FetchError> {
-        let name_asked = String::from_str(self.alloc, name)?;
-        match self.asked.push(name_asked) {
-            Ok(()) => self.inner.fetch(name, into),
-            Err(_) => Err(FetchError::OutOfMemory),
-        }
+        self.note(name)?;
+        self.inner.fetch(name, into)
     }
 }
 

@@ -3,7 +3,7 @@ use Rattle.std.proofs.lemmas.List.{with_items_is}
 use Rattle.std.proofs.lemmas.Result.{err_from_is_err_and}
 use Rattle.csv.specs.Records.{fields_of}
 use Rattle.sl_codes.specs.Records.{records_of, rows_of, codes_of}
-use Rattle.sl_pools.specs.Pools.{PoolList, IsPoolList}
+use Rattle.sl_pools.specs.Pools.{IsPoolList}
 use Rattle.sl_pools.proofs.Kept.{pool_list}
 use Rattle.sl_pools.proofs.Links.{linked_of, length-linked, whole_file, same_list}
 use Rattle.sl_pools.proofs.pools.read_pools.Goals as goal
