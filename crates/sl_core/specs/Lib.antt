@@ -1,0 +1,5 @@
+pub mod State
+pub mod Machine
+pub mod Dividing
+pub mod Parts
+pub mod Laws
