@@ -1,0 +1,12 @@
+pub mod Words
+pub mod Told
+pub mod Keeps
+pub mod Hands
+pub mod Both
+pub mod Inside
+pub mod Ends
+pub mod Last
+pub mod Opens
+pub mod Changes
+pub mod Sets
+pub mod Settling
