@@ -187,7 +187,7 @@ impl<'a> Machine<'a> {
     }
 
     /// Does one step. `NotNow` comes exactly where the machine has no such step from this state, as for a number
-    /// that is no actor's; want of memory may come at a draw. After both the machine is unchanged.
+    /// that is no actor's; want of memory is free. After both the machine is unchanged.
     pub fn step(&mut self, event: Event) -> Result<(), StepError>
         ensures steps { OnOk result (Steps self.old.market self.old.state event self.new.state) }
         ensures market { self.new.market ≡ self.old.market }

@@ -7,6 +7,7 @@ pub mod Inside
 pub mod Ends
 pub mod Last
 pub mod Opens
+pub mod Events
 pub mod Changes
 pub mod Sets
 pub mod Settling

@@ -15,15 +15,16 @@ use Rattle.sl_laws.specs.Limits.{Limits}
 use Rattle.sl_laws.specs.Raises.{EachRaise, Replays, after_raise, after_raises, limits_after, zeros}
 use Rattle.sl_laws.proofs.Effective.{with_limit_here, with_limit_else}
 use Rattle.sl_core.specs.State.{all_pools, words_after, start}
+use Rattle.sl_core.specs.Parts.{HasParts}
 use Rattle.sl_core.proofs.Actors.{replicate_within}
 use Rattle.sl_core.proofs.Filling.{same_by_each}
 use Rattle.sl_core.proofs.Starts.{starts_with, words_long}
 use Rattle.sl_floor.specs.declared.shares.TheConstants.{WHOLE_SHARE, FIRST_ALLOWANCE}
 use Rattle.sl_floor.specs.Floor.{word_count, flag_place, is_up, first_view, opening_words}
 use Rattle.sl_floor.specs.Held.{Holds}
-use Rattle.sl_floor.specs.Rule.{limit_words, flag_words, IsSeatOf, IsFloored}
+use Rattle.sl_floor.specs.Rule.{limit_words, flag_words, state_of, IsSeatOf, IsFloored}
 use Rattle.sl_floor.proofs.Words.{limit_at, limits_long, flag_at, flags_long}
-use Rattle.sl_floor.proofs.Told.{parts_by, seated_here}
+use Rattle.sl_floor.proofs.Told.{state_by, seated_here}
 
 later : (t : ℕ) (xs : List ℕ) (k : ℕ) → get_or (t ∷ xs) (k + 1) 0 ≡ get_or xs k 0
 later t xs k = let is : k + 1 ≡ suc k = omega arith in ap (λ (j : ℕ). get_or (t ∷ xs) j 0) is
@@ -50,13 +51,17 @@ module _ (market : Market) (kept : List Raise) (limits : List ℕ) (reached : li
       ∙ (get_or-append-add limits (replicate (length limits) 1) k 0 ∙ replicate_within (length limits) k 1 0 (omega (arith, inside, long)))) in
       flag_at market words wide k inside ∙ (ap is_up word ∙ sym (replicate_within (length market.pools) k true false inside)))
 
+  -- they make the machine's start
+  pub opens_start : state_of market words (first_view market kept ∷ []) ≡ start market kept 0
+  opens_start = state_by market words (first_view market kept ∷ []) (start market kept 0) (limits_are ∙ reached) flags_are refl refl
+
   pub opens : IsValid market → length kept < 2 ^ 61 → Replays market kept → IsFloored market kept (opening words [] (first_view market kept))
   opens valid few replays = record {
     valid = valid;
     few = few;
     wide = wide;
     seats = All-cons (IsSeatOf market kept) (first_view market kept) [] (inl (record { share = omega arith; instance = refl; raises = refl })) (All-nil (IsSeatOf market kept));
-    parts = parts_by market kept words (first_view market kept ∷ []) (start market kept 0) (limits_are ∙ reached) flags_are refl refl (starts_with market kept 0 replays);
+    parts = subst (HasParts market kept) (sym opens_start) (starts_with market kept 0 replays);
     shares = refl;
     tickets = omega arith;
   }

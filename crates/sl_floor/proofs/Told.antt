@@ -21,10 +21,15 @@ use Rattle.sl_floor.specs.Held.{IsSeated}
 use Rattle.sl_floor.specs.Rule.{Table, limit_words, flag_words, actor_in, state_of, HoldsFloor, IsSeatOf, IsFloored}
 use Rattle.sl_floor.proofs.Words.{map_get, map_within, at_within, at_get, sum_set, seated_is, reached_top, kept_low}
 
--- the parts by the words and the actors
+-- the state by the words and the actors
+pub state_by : (market : Market) (words : List ℕ) (views : List Sitting) (t : State) → limit_words market words ≡ t.limits → flag_words market words ≡ t.flags → slice_index words 0 ≡ t.ticket
+    → map (actor_in market) views ≡ t.actors → state_of market words views ≡ t
+state_by market words views t limits flags ticket actors = let same : state_of market words views ≡ record { limits = t.limits; flags = t.flags; ticket = t.ticket; actors = t.actors } = cc in same
+
+-- the parts by them
 pub parts_by : (market : Market) (kept : List Raise) (words : List ℕ) (views : List Sitting) (t : State) → limit_words market words ≡ t.limits → flag_words market words ≡ t.flags → slice_index words 0 ≡ t.ticket
     → map (actor_in market) views ≡ t.actors → HasParts market kept t → HasParts market kept (state_of market words views)
-parts_by market kept words views t limits flags ticket actors parts = let same : state_of market words views ≡ record { limits = t.limits; flags = t.flags; ticket = t.ticket; actors = t.actors } = cc in subst (HasParts market kept) (sym same) parts
+parts_by market kept words views t limits flags ticket actors parts = subst (HasParts market kept) (sym (state_by market words views t limits flags ticket actors)) parts
 
 module _ (market : Market) (kept : List Raise) (id : ℕ) (v : Sitting) (some_share : 0 < v.share) (same : v.market ≡ market) (s : Table) (r : IsFloored market kept s) (at : get_elem? s.views id ≡ some v) where
   abbrev pub core : State

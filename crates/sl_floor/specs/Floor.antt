@@ -4,6 +4,8 @@ use Rattle.sl_types.specs.declared.kinds.PoolId.{PoolId}
 use Rattle.sl_types.specs.declared.kinds.Raise.{Raise}
 use Rattle.sl_types.specs.declared.kinds.Logged.{Logged}
 use Rattle.sl_types.specs.Market.{Market}
+use Rattle.sl_laws.specs.Limits.{Limits}
+use Rattle.sl_laws.specs.Stable.{IsStable}
 use Rattle.sl_core.specs.declared.kinds.Phase.{Phase}
 use Rattle.sl_core.specs.declared.kinds.Phase.TheVariants.{Idle, Working, Ready, Drawn, Owing}
 use Rattle.sl_core.specs.State.{Actor, nobody, idle_actor, logged_from, words_after, all_pools, is_idle}
@@ -13,11 +15,13 @@ use Rattle.atomic_table.specs.Seated.{TableId}
 use Rattle.sl_floor.specs.declared.shares.TheConstants.{WHOLE_SHARE, FIRST_ALLOWANCE}
 
 -- what a seat is: an actor of the machine, its share of the floor, how many tickets it may still
--- draw, how many steps it made on each word, and the instance and the kept raises of its floor
+-- draw, the word that its last raise found, how many steps it made on each word, and the instance
+-- and the kept raises of its floor
 pub record Sitting : Type 0 where
   pub actor : Actor
   pub share : ℕ
   pub allowance : ℕ
+  pub found : ℕ
   pub steps : List ℕ
   pub market : Market
   pub kept : List Raise
@@ -81,6 +85,7 @@ first_view market kept = record {
   actor = idle_actor market (words_after market kept) (all_pools market) (logged_from 0 kept);
   share = WHOLE_SHARE;
   allowance = FIRST_ALLOWANCE;
+  found = 0;
   steps = replicate (word_count market) 0;
   market = market;
   kept = kept;
@@ -112,6 +117,7 @@ draw_view v ticket = record v {
 abbrev pub raise_view : Sitting → PoolId → ℕ → ℕ → Sitting
 raise_view v P x word = record v {
   actor = actor_after_raise v.market P x v.actor word;
+  found = word;
   steps = step_on (limit_place P.0) v.steps;
 }
 
@@ -143,6 +149,7 @@ go_view bare v = record v {
   actor = actor_divided_off v.market v.actor bare;
   share = v.share / 2;
   allowance = v.allowance / 2;
+  found = 0;
   steps = replicate (word_count v.market) 0;
 }
 
@@ -162,6 +169,7 @@ spent_view = record {
   actor = nobody;
   share = 0;
   allowance = 0;
+  found = 0;
   steps = [];
   market = record { pools = []; progs = []; lists = [] };
   kept = [];
@@ -205,6 +213,12 @@ CanRaise seat = may_raise seat.view.actor.phase ≡ true
 
 abbrev pub OwesMark : SeatValue → ℕ → Type 0
 OwesMark seat Q = still_owes seat.view.actor.phase seat.view.actor.owed Q ≡ true
+
+-- a word isn't above a stable limit of the pool whose raise is drawn
+abbrev pub IsLowInHand : Market → SeatValue → ℕ → Type 0
+IsLowInHand market seat word =
+    (P : PoolId) (x : ℕ) → seat.view.actor.phase ≡ Drawn P x
+    → (l : Limits) → IsStable market l → word ≤ l P.0
 
 -- no pool is left to scan
 abbrev pub HasNoneLeft : SeatValue → Type 0

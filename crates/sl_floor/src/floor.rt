@@ -4,7 +4,7 @@ ghost use Rattle.sl_types.specs.Market.{Market};
 ghost use Rattle.sl_laws.specs.Limits.{Limits};
 ghost use Rattle.sl_laws.specs.Stable.{IsStable};
 ghost use Rattle.sl_laws.specs.Raises.{Replays};
-ghost use Rattle.sl_floor.specs.Floor.{flag_place, first_view, read_view, claim_view, mark_view, seat_after_draw, seat_after_raise, IsOf, CanClaim, CanRead, CanDraw, CanRaise, OwesMark, KnowsMore};
+ghost use Rattle.sl_floor.specs.Floor.{flag_place, first_view, read_view, claim_view, mark_view, seat_after_draw, seat_after_raise, IsOf, CanClaim, CanRead, CanDraw, CanRaise, OwesMark, KnowsMore, IsLowInHand};
 
 use crate::opening::{opening_words, reached};
 use crate::pool_set::PoolSet;
@@ -151,13 +151,14 @@ impl Floor {
     }
 
     /// Raises the word of the pool in hand to the limit that was drawn: one fetch-max. The answer is the word
-    /// that it found, in points.
+    /// that it found, in points, which the seat's view keeps (`found`). It is above no stable limit.
     pub fn raise(&self, seat: &mut Seat) -> u32
         requires seat { IsOf self.now seat.old }
         requires may { CanRaise seat.old }
         ensures seat { seat.new ≡ seat_after_raise seat.old result }
         ensures rises { KnowsMore seat.old seat.new }
         ensures top { result ≤ MAX_SCORE + 1 }
+        ensures low { IsLowInHand self.now.market seat.old result }
     {
         let shared = &self.table.shared;
         let (pool, limit) = (seat.pool, seat.limit);

@@ -21,7 +21,10 @@ pub use closing::Receipt;
 pub use floor::Floor;
 pub use seat::Seat;
 pub use shares::{FIRST_ALLOWANCE, WHOLE_SHARE};
-pub use theorems::words_pass_none;
+pub use theorems::{
+    claim_is_event, draw_is_event, mark_is_event, opens_at_start, raise_is_event, read_is_event,
+    words_pass_none,
+};
 
 #[cfg(test)]
 mod tests;

@@ -1,4 +1,4 @@
-// The parts, but for what they say of sizes and kept raises, as a program can look at them.
+// The parts, but for what they say of sizes, kept raises and reads that are not made, as a program can look at them.
 use super::*;
 
 // What a list has at a pool.

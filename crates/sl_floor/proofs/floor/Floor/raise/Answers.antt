@@ -1,7 +1,10 @@
 use Rattle.std.proofs.Common.{rules, ◌≡◌, ℕ, ◌<◌, ◌≤◌, true, length, set, sym, ap, ◌∙◌, subst, arith}
 use Rattle.std.specs.Prelude.{slice_index}
+use Rattle.sl_types.specs.Market.{Market}
+use Rattle.sl_laws.specs.Stable.{IsStable}
+use Rattle.sl_core.specs.declared.kinds.Phase.TheVariants.{Drawn}
 use Rattle.sl_core.specs.Machine.{may_raise}
-use Rattle.sl_floor.specs.Floor.{Sitting, SeatValue, raise_view}
+use Rattle.sl_floor.specs.Floor.{Sitting, FloorValue, SeatValue, raise_view}
 use Rattle.sl_floor.specs.Held.{IsSeated, Holds}
 use Rattle.sl_floor.proofs.Keeps.{raises}
 use Rattle.sl_floor.proofs.Hands.{raise_hand, raise_holds, raise_rises}
@@ -64,3 +67,11 @@ returns-clause-rises c = λ Q.
     subst (λ (z : SeatValue). slice_index z.view.actor.known Q ≤ slice_index c.fetch_max-found.new.seat.me.0.actor.known Q) c.seat.view_is
     (subst (λ (u : Sitting). slice_index s.token.me.0.actor.known Q ≤ slice_index u.actor.known Q) (sym told.0)
     (raise_rises s.token.me.0 s.known.items s.left s.share s.allowance s.pool s.limit c.seat.invariant.1 s.pool s.limit c.fetch_max-found.result told.1.rises Q))
+
+pub returns-clause-low : goal.returns-clause-low
+returns-clause-low c = λ P x drawn l stable.
+    let may = subst (λ (z : SeatValue). may_raise z.view.actor.phase ≡ true) (sym c.seat.view_is) c.requires.may in
+    let of = of_inside _ _ _ _ c.self.view_is c.seat.view_is c.requires.seat in
+    let s = c.seat.inside in
+    let here : s.token.me.0.actor.phase ≡ Drawn P x = subst (λ (z : SeatValue). z.view.actor.phase ≡ Drawn P x) (sym c.seat.view_is) drawn in
+    (c.fetch_max-found.ensures.2.1 P x here).1.low l (subst (λ (m : Market). IsStable m l) (sym of.market) (subst (λ (f : FloorValue). IsStable f.market l) (sym c.self.view_is) stable))
