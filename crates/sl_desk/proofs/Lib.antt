@@ -1,0 +1,14 @@
+pub mod Falls
+pub mod Numbers
+pub mod Gaining
+pub mod Seen
+pub mod Fronts
+pub mod Asked
+pub mod Owed
+pub mod Forgets
+pub mod Lifts
+pub mod Best
+pub mod Parts
+pub mod Settled
+pub mod Scans
+pub mod Turning

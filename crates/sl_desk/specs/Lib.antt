@@ -1,0 +1,10 @@
+pub mod Turns
+pub mod TurnLaws
+pub mod Seats
+pub mod Reading
+pub mod Marking
+pub mod Raising
+pub mod Settling
+pub mod Desks
+pub mod Scanning
+pub mod Working
