@@ -97,7 +97,8 @@ pub fn read_programmes(
 ) -> Result<ProgTable, ReadError>
     ensures right { let first = first_fault (programme_form pools.now.codes) in
         OnOk result (first (records_of bytes.now) ≡ None) }
-    ensures table { IfOk result (λ table. table ≡ programmes_of pools.now.codes (rows_of bytes.now)) }
+    ensures table { let list = programmes_of pools.now.codes in
+        IfOk result (λ table. table ≡ list (rows_of bytes.now)) }
     ensures within { IfOk result (λ table. All (λ Q. Q.0 < length pools.now.codes) table.pools) }
     ensures refused { let first = first_fault (programme_form pools.now.codes) in
         IfErr result (IsFirst (first (records_of bytes.now))) }
