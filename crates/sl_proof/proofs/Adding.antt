@@ -2,7 +2,6 @@
 use Rattle.std.proofs.Common.{◌≡◌, ◌<◌, ◌≤◌, ◌∙◌, ℕ, zero, suc, List, [], ◌∷◌, ◌++◌, length, set, max, replicate, refl, sym, ap, arith, subst, slice_index, length-set}
 use Rattle.std.proofs.lemmas.List.{length-replicate}
 use Rattle.sl_types.specs.declared.kinds.Raise.{Raise}
-use Rattle.sl_types.specs.Market.{Market}
 use Rattle.sl_laws.specs.Limits.{Limits, with_limit, effective_limit}
 use Rattle.sl_laws.specs.Raises.{MayCome, limits_after, zeros, Replays}
 use Rattle.sl_laws.proofs.Nest.{le_limit, lies_own}
@@ -10,7 +9,7 @@ use Rattle.sl_laws.proofs.Slices.{set_replaces, same_limits}
 use Rattle.sl_laws.proofs.Ends.{after_raises-push, EachRaise-push, EachRaise-last}
 use Rattle.sl_proof.specs.Progress.{Progress, HasReplayed}
 
-all_zero : (n P : ℕ) → slice_index (replicate n 0) P ≡ 0
+pub all_zero : (n P : ℕ) → slice_index (replicate n 0) P ≡ 0
 all_zero zero P = refl
 all_zero (suc n) zero = refl
 all_zero (suc n) (suc P) = all_zero n P

@@ -1,0 +1,4 @@
+pub mod Seats
+pub mod Crew
+pub mod Rounds
+pub mod Clearing
