@@ -1,0 +1,8 @@
+pub mod Failing
+pub mod Numbered
+pub mod Once
+pub mod Groups
+pub mod Sizes
+pub mod Listed
+pub mod MeritPools
+pub mod Fits

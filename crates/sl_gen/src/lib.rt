@@ -1,0 +1,13 @@
+//! A round of admissions that is made from the number of its applicants alone.
+#![tactic(auto)]
+
+mod choices;
+mod pools;
+mod round;
+mod theorems;
+
+pub use round::generate;
+pub use theorems::{generated_fits, generated_sizes};
+
+#[cfg(test)]
+mod tests;
