@@ -3,16 +3,18 @@
 how much memory they had. It is no test.
 
     measure.py FOLDER [LETTER [PROGRAM ..]]
+    measure.py demo APPLICANTS [PROGRAM ..]
 
 FOLDER has pools.csv, programmes.csv and applications.csv, as make_tables.py writes them; result.csv is written
 into it. LETTER is H or L. A PROGRAM is one that `rt run` in crates/scorelimits has built, by default the one
 that lies there; several are compared over the same tables in one run. Where bench/plain is built it runs beside
-them, and ratios to it are said.
+them, and ratios to it are said. The last program runs with 4 workers, too.
 
 User time is what the processor worked; elapsed time goes by the clock. Of several runs the median is said, with
 the least and the greatest. Memory is the most that a process had resident. Reading is what it takes to read the
 tables and then to refuse an empty document; writing goes from the first byte of the result to the last; clearing,
-with the admissions and counts, is what is left of a whole `clear`.
+with the admissions and counts, is what is left of a whole `clear`. The second form clears the generated round of
+so many applicants with 1, 2, 4 and 8 workers.
 """
 
 import os
@@ -26,6 +28,7 @@ HERE = os.path.dirname(os.path.abspath(__file__))
 PROGRAM = os.path.join(HERE, "..", "crates", "scorelimits", "out", "scorelimits")
 PLAIN = os.path.join(HERE, "plain", "target", "release", "plain")
 TABLES = ("pools.csv", "programmes.csv", "applications.csv")
+WORKERS = ("1", "2", "4", "8")
 
 
 class Run:
@@ -85,9 +88,27 @@ def parts(program, letter, tables, document):
           f"checking the result {check.elapsed:.2f} s, {check.memory:.0f} MB (status {check.status})")
 
 
+def demo(applicants, programs):
+    """The generated round with each number of workers."""
+    print(f"demo {applicants}: {os.cpu_count()} cores, {RUNS} runs each")
+    commands = [[program, "demo", applicants, workers] for program in programs for workers in WORKERS]
+    names = [f"{os.path.relpath(program, HERE)} {workers}" for program in programs for workers in WORKERS]
+    if os.path.exists(PLAIN):
+        commands.append([PLAIN, "demo", applicants])
+        names.append("plain")
+    measured = in_turn(commands)
+    for name, runs in zip(names, measured):
+        say(name, runs)
+    if names[-1] == "plain":
+        for name, runs in zip(names[:-1], measured):
+            print(f"{name} beside plain: {median(runs, 'elapsed') / median(measured[-1], 'elapsed'):.2f} of the time")
+
+
 def main(words):
     if not words:
         sys.exit(__doc__)
+    if words[0] == "demo":
+        return demo(words[1], words[2:] or [PROGRAM])
     folder, letter = words[0], words[1] if len(words) > 1 else "H"
     programs = words[2:] or [PROGRAM]
     tables = [os.path.join(folder, name) for name in TABLES]
@@ -97,6 +118,8 @@ def main(words):
     parts(programs[-1], letter, tables, os.path.join(folder, "result.csv"))
     commands = [[program, "clear", letter, "1", *tables] for program in programs]
     names = [os.path.relpath(program, HERE) for program in programs]
+    commands.append([programs[-1], "clear", letter, "4", *tables])
+    names.append(f"{names[-1]} with 4")
     if os.path.exists(PLAIN):
         commands.append([PLAIN, letter, *tables])
         names.append("plain")

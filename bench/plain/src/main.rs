@@ -1,10 +1,13 @@
 //! A yardstick for `scorelimits` without proofs: it clears the same tables to the same limits, counts and
 //! admissions, by applicant-proposing deferred acceptance with a heap for each pool. It checks nothing of its
-//! tables, and writes no list of raises.
+//! tables, and writes no list of raises. By rule L it counts an applicant out of a pool who comes back by a later
+//! choice in the same one, so its limit can then be too low.
 //!
 //!     plain R pools.csv programmes.csv applications.csv
+//!     plain demo N
 
 mod clearing;
+mod generated;
 mod instance;
 mod tables;
 
@@ -37,10 +40,16 @@ fn write(named: &Named, outcome: &Outcome) -> Result<(), Box<dyn Error>> {
 
 fn main() -> Result<(), Box<dyn Error>> {
     let words: Vec<String> = std::env::args().skip(1).collect();
-    let [letter, pools, programmes, applications] = words.as_slice() else {
-        return Err("plain R pools.csv programmes.csv applications.csv".into());
-    };
-    let named = tables::read(letter, pools, programmes, applications)?;
-    let outcome = clearing::clear(&named.instance);
-    write(&named, &outcome)
+    match words.as_slice() {
+        [demo, applicants] if demo == "demo" => {
+            let instance = generated::generate(applicants.parse()?);
+            generated::write(&instance, &clearing::clear(&instance))?;
+            Ok(())
+        }
+        [letter, pools, programmes, applications] => {
+            let named = tables::read(letter, pools, programmes, applications)?;
+            write(&named, &clearing::clear(&named.instance))
+        }
+        _ => Err("plain R pools.csv programmes.csv applications.csv, or plain demo N".into()),
+    }
 }

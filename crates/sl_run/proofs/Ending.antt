@@ -1,6 +1,6 @@
 -- How a command ends, by what its files hold.
 use Rattle.std.proofs.Common.{◌≡◌, ◌∙◌, ℕ, List, [], ◌∷◌, take, length, refl, sym, ap, subst, inl, inr, arith, Some, None}
-use Rattle.std.specs.Prelude.{◌⊎◌, ◌↔◌, Any, Result, Ok, Err, IfErr, IsErrOf}
+use Rattle.std.specs.Prelude.{◌⊎◌, ◌↔◌, true, Option, Any, Result, Ok, Err, IfErr, IsErrOf}
 use Rattle.std.proofs.lemmas.List.Elements.{All-take}
 use Rattle.sl_io.specs.Shelf.{Files}
 use Rattle.sl_io.specs.Sink.{Output, RoseIn}
@@ -11,10 +11,13 @@ use Rattle.sl_codes.specs.declared.faults.TableFault.{TableFault}
 use Rattle.sl_instance.specs.NamedMarket.{NamedMarket}
 use Rattle.sl_run.specs.declared.failure.Failure.{Failure}
 use Rattle.sl_run.specs.declared.failure.Failure.TheVariants.{Words, Refused, TooLong, Unreadable, Unwritable, OutOfMemory}
-use Rattle.sl_run.specs.Words.{TableNames, Command, clear, check, File, file_of, command_of, inputs_of, letter_rule, tables_and, StandsAt, IsCheck, AreNoCommand}
-use Rattle.sl_run.specs.Accepted.{IsTold, HoldsFor, Hold, AreAccepted, IsRefused, IsTooLong, IsStop, fault_in}
+use Rattle.sl_run.specs.Words.{TableNames, Command, clear, check, demo, File, file_of, command_of, inputs_of, letter_rule, tables_and, StandsAt, AreWordsOf, IsCheck, IsDemo, is_clearing, AreNoCommand}
+use Rattle.sl_run.specs.Accepted.{IsTold, IsToldTo, HoldsFor, Hold, AreAccepted, IsRefused, IsTooLong, IsStop, fault_in}
 use Rattle.sl_run.specs.Causes.{RoseOf, RoseUpTo, IsCause, IsCauseOf, Refuses, Completes}
 use Rattle.sl_run.specs.Ending.{Ending, ending_of, status_of_verdict, EndsWith, IsQuiet}
+use Rattle.sl_floor.specs.Ending.{Closing}
+use Rattle.sl_run.specs.declared.ended.Ended.{Ended}
+use Rattle.sl_run.specs.Receipt.{AnswersReceipt, AnswerReceipt}
 use Rattle.sl_run.specs.Run.{IsCarriedOut, CarriesOut, EndQuietly, Ends}
 use Rattle.sl_run.specs.Failures.{status_of}
 use Rattle.sl_run.proofs.Accepting.{same_text, same_fault}
@@ -56,8 +59,21 @@ module _ (shelf : Files) (t : TableNames) (more : List File) (n : NamedMarket) (
 no_stop : (shelf : Files) (command : Command) (n : NamedMarket) (k : ℕ) (file : File) → StandsAt (inputs_of command) k file
     → Hold shelf (inputs_of command).rule n (take k (inputs_of command).files) → HoldsFor shelf (inputs_of command).rule n file
     → IsStop shelf (inputs_of command).rule (take k (inputs_of command).files) file → ⊥
-no_stop shelf (clear t) n k file at before here stop = not_stop shelf t [] n k file at before here stop
+no_stop shelf (clear w t) n k file at before here stop = not_stop shelf t [] n k file at before here stop
 no_stop shelf (check t document) n k file at before here stop = not_stop shelf t (file_of Results document ∷ []) n k file at before here stop
+no_stop shelf (demo a w) n k file at before here stop = cc at
+
+-- where the files are told, they are to each command
+told_to : (shelf : Files) (command : Command) → IsTold shelf → IsToldTo shelf command
+told_to shelf (clear w t) told = told
+told_to shelf (check t document) told = told
+told_to shelf (demo a w) told = tt
+
+-- where they are told to a command that has a file, they are told
+told_with : (shelf : Files) (command : Command) (k : ℕ) (file : File) → StandsAt (inputs_of command) k file → IsToldTo shelf command → IsTold shelf
+told_with shelf (clear w t) k file at told = told
+told_with shelf (check t document) k file at told = told
+told_with shelf (demo a w) k file at told = cc at
 
 -- where all files of a command are accepted, none is the first that isn't
 none_stops : (shelf : Files) (command : Command) (n : NamedMarket) (k : ℕ) (file : File) → StandsAt (inputs_of command) k file
@@ -82,14 +98,14 @@ failure_at command before after told Unwritable k file at cause stop =
 failure_at command before after told OutOfMemory k file at cause stop = inr (inl refl)
 
 -- where all files are accepted, a failure has status 6, or a count rose
-failure_after : (command : Command) (before after : Files) (out_before out_after : Output) → IsTold before → (n : NamedMarket) (failure : Failure)
+failure_after : (command : Command) (before after : Files) (out_before out_after : Output) → IsToldTo before command → (n : NamedMarket) (failure : Failure)
     → IsCause (inputs_of command) before after failure → (status_of failure ≡ 5 → RoseIn out_before out_after) → AreAccepted before (inputs_of command) n
     → (status_of failure ≡ 6) ⊎ Any (RoseOf before after) (inputs_of command).files ⊎ RoseIn out_before out_after
 failure_after command before after out_before out_after told n Words cause output held = absurd cause
 failure_after command before after out_before out_after told n (Refused fault) (k, file, at, of) output held =
-    absurd (none_stops before command n k file at held (inl (fault, of told)))
+    absurd (none_stops before command n k file at held (inl (fault, of (told_with before command k file at told))))
 failure_after command before after out_before out_after told n (TooLong table) (k, file, at, (same, of)) output held =
-    absurd (none_stops before command n k file at held (inr (of told)))
+    absurd (none_stops before command n k file at held (inr (of (told_with before command k file at told))))
 failure_after command before after out_before out_after told n (Unreadable table) (k, file, at, (same, rose, earlier)) output held =
     inr (inl (any_at (RoseOf before after) (RoseOf before after) (inputs_of command).files k file at rose))
 failure_after command before after out_before out_after told n Unwritable cause output held = inr (inr (output refl))
@@ -97,9 +113,11 @@ failure_after command before after out_before out_after told n OutOfMemory cause
 
 module _ (words : List (List ℕ)) (before after : Files) where
   -- files of a command that was carried out
-  pub none_refused : (out_before out_after : Output) (HasEnding : Ending → Type 0) (status : ℕ) → CarriesOut words before out_before out_after HasEnding → Refuses words before after status
-  none_refused out_before out_after HasEnding status carried told command e k file at stop =
-      let (own, is, done) = carried told in
+  pub none_refused : (out_before out_after : Output) (HasEnding : Ending → Type 0) (receipt : Option Closing) (status : ℕ)
+      → CarriesOut words before out_before out_after HasEnding receipt → Refuses words before after status
+  none_refused out_before out_after HasEnding receipt status carried told command e k file at stop =
+      let (own, is, out_of) = carried in
+      let done = out_of (told_to before own told) in
       let same = one_command words own command is e in
       let held = subst (λ (d : Command). AreAccepted before (inputs_of d) done.n) same done.held in
       absurd (none_stops before command done.n k file at held stop)
@@ -112,14 +130,14 @@ module _ (words : List (List ℕ)) (before after : Files) where
 
   pub completes : (out_before out_after : Output) (failure : Failure) → IsCauseOf words before after failure
       → (status_of failure ≡ 5 → RoseIn out_before out_after) → Completes words before after out_before out_after (status_of failure)
-  completes out_before out_after failure (inl (is, none)) output told command e faultless = let no : None ≡ Some command = sym none ∙ e in cc no
-  completes out_before out_after failure (inr (own, is, cause)) output told command e faultless =
+  completes out_before out_after failure (inl (is, none)) output command e told faultless = let no : None ≡ Some command = sym none ∙ e in cc no
+  completes out_before out_after failure (inr (own, is, cause)) output command e told faultless =
       let same = one_command words own command is e in
       let (n, held) = accepted_of before command faultless in
       inr (failure_after command before after out_before out_after told n failure (subst (λ (d : Command). IsCause (inputs_of d) before after failure) same cause) output held)
 
   pub completed : (out_before out_after : Output) (status : ℕ) → EndQuietly words status → Completes words before after out_before out_after status
-  completed out_before out_after status (own, is, (m, verdict, ends)) told command e faultless =
+  completed out_before out_after status (own, is, (m, verdict, ends)) command e told faultless =
       let same = one_command words own command is e in
       inl (m, verdict, subst (λ (d : Command). status ≡ (ending_of d m verdict).status) same (ap (λ (x : Ending). x.status) (sym ends)))
 
@@ -133,9 +151,9 @@ zero_or_one Yes = inl refl
 zero_or_one verdict = inr refl
 
 -- nothing was put for people where nothing was to be
-pub quiet_end : (shelf : Files) (command : Command) (IsPut : List ℕ → Type 0) (status : ℕ) (err : Output) → IsCarriedOut shelf command IsPut (IsQuiet status)
-    → IsCarriedOut shelf command IsPut (EndsWith status err err)
-quiet_end shelf command IsPut status err d = record {
+pub quiet_end : (shelf : Files) (command : Command) (IsPut : List ℕ → Type 0) (status : ℕ) (receipt : Option Closing) (err : Output)
+    → IsCarriedOut shelf command IsPut (IsQuiet status) receipt → IsCarriedOut shelf command IsPut (EndsWith status err err) receipt
+quiet_end shelf command IsPut status receipt err d = record {
   n = d.n;
   held = d.held;
   verdict = d.verdict;
@@ -147,11 +165,44 @@ quiet_end shelf command IsPut status err d = record {
 
 -- with status 0, or with status 1 where it is a check
 pub low_status : (words : List (List ℕ)) (status : ℕ) → EndQuietly words status → (status ≡ 0) ⊎ ((status ≡ 1) × IsCheck words)
-low_status words status (clear t, is, (n, verdict, ends)) = inl (sym (ap (λ (x : Ending). x.status) ends))
+low_status words status (clear w t, is, (n, verdict, ends)) = inl (sym (ap (λ (x : Ending). x.status) ends))
 low_status words status (check t document, is, (n, verdict, ends)) = elim (zero_or_one verdict) [
   | inl zero ↦ inl (sym (ap (λ (x : Ending). x.status) ends) ∙ zero)
   | inr one ↦ inr (sym (ap (λ (x : Ending). x.status) ends) ∙ one, (t, document, is))
 ]
+low_status words status (demo a w, is, (n, verdict, ends)) = inl (sym (ap (λ (x : Ending). x.status) ends))
+
+-- a demo has no file that could be the cause of a failure
+demo_cause : (a w : ℕ) (before after : Files) (failure : Failure) → IsCause (inputs_of (demo a w)) before after failure → (status_of failure ≡ 5) ⊎ (status_of failure ≡ 6)
+demo_cause a w before after Words cause = absurd cause
+demo_cause a w before after (Refused fault) (k, file, at, of) = cc at
+demo_cause a w before after (TooLong table) (k, file, at, of) = cc at
+demo_cause a w before after (Unreadable table) (k, file, at, of) = cc at
+demo_cause a w before after Unwritable cause = inl refl
+demo_cause a w before after OutOfMemory cause = inr refl
+
+pub demo_fails : (words : List (List ℕ)) (before after : Files) (failure : Failure) → IsCauseOf words before after failure → IsDemo words → (status_of failure ≡ 5) ⊎ (status_of failure ≡ 6)
+demo_fails words before after failure (inl (is, none)) (a, w, e) = let no : None ≡ Some (demo a w) = sym none ∙ e in cc no
+demo_fails words before after failure (inr (own, is, cause)) (a, w, e) =
+    demo_cause a w before after failure (subst (λ (d : Command). IsCause (inputs_of d) before after failure) (one_command words own (demo a w) is e) cause)
+
+-- where the words are those of a demo, its command has no files
+pub demo_files : (words : List (List ℕ)) (command : Command) → AreWordsOf words command → IsDemo words → (inputs_of command).files ≡ []
+demo_files words command is (a, w, e) = ap (λ (d : Command). (inputs_of d).files) (one_command words command (demo a w) is e)
+
+-- they end with 0 where it is carried out
+pub demo_status : (words : List (List ℕ)) (status : ℕ) → EndQuietly words status → IsDemo words → status ≡ 0
+demo_status words status (own, is, (n, verdict, ends)) (a, w, e) =
+    ap (λ (x : Ending). x.status) (sym ends) ∙ ap (λ (d : Command). (ending_of d n verdict).status) (one_command words own (demo a w) is e)
+
+-- words answer a receipt exactly where their command does
+pub receipt_of : (words : List (List ℕ)) (command : Command) → AreWordsOf words command → (ended : Ended) → AnswersReceipt command ended → AnswerReceipt words ended
+receipt_of words command is ended (to, from) = (
+  λ some. let (zero, clearing) = to some in (zero, (command, is, clearing)),
+  λ both.
+      let (zero, (own, own_is, clearing)) = both in
+      from (zero, subst (λ (d : Command). is_clearing d ≡ true) (one_command words own command own_is is) clearing),
+)
 
 -- a failure has status 2 exactly where the words are those of no command
 other_status : (failure : Failure) → (failure ≡ Words → ⊥) → status_of failure ≡ 2 → ⊥

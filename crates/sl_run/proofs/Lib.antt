@@ -1,4 +1,3 @@
-pub mod Raising
 pub mod Ranges
 pub mod Places
 pub mod Accepting
@@ -6,4 +5,5 @@ pub mod Faultless
 pub mod Ending
 pub mod Lines
 pub mod Writing
-pub mod Marking
+pub mod Admitted
+pub mod Once

@@ -3,7 +3,19 @@ use Rattle.std.proofs.Common.{◌≡◌, ◌∙◌, ◌+◌, ◌<◌, ℕ, zero,
 use Rattle.std.specs.Prelude.{min}
 use Rattle.std.specs.List.{concat}
 use Rattle.std.specs.Io.KnownBytes.{Appends}
+use Rattle.std.specs.Prelude.{flat_map, map}
 use Rattle.sl_io.specs.Sink.{AppendsPart}
+use Rattle.sl_codes.specs.declared.field_text.Field.{Field}
+use Rattle.sl_codes.specs.RecordText.{record_of, text_of_record}
+
+-- the line of a record of these fields
+abbrev pub line_of_fields : List Field → List ℕ
+line_of_fields fields = text_of_record (record_of fields)
+
+-- the lines of records, one after another, are their text
+pub lines_are_text : (records : List (List Field)) → concat (map line_of_fields records) ≡ flat_map text_of_record (map (λ r. record_of r) records)
+lines_are_text [] = refl
+lines_are_text (r ∷ rs) = ap (λ (t : List ℕ). line_of_fields r ++ t) (lines_are_text rs)
 
 -- one piece more
 pub concat_more : (xs : List (List ℕ)) (i : ℕ) → i < length xs → concat (take i xs) ++ get_or xs i [] ≡ concat (take (i + 1) xs)

@@ -26,7 +26,7 @@ use Rattle.sl_run.specs.Result.{IsResultOf}
 index_low : (market : Market) (t : Limits) (choices : List Entry) → position_or_len (is_eligible market t) choices ≤ length choices
 index_low market t choices = prefix_len-le-length _ choices
 
-at_map : (g : List Entry → ℕ) (lists : List (List Entry)) (k d : ℕ) → k < length lists → get_or (map g lists) k d ≡ g (get_or lists k [])
+pub at_map : (g : List Entry → ℕ) (lists : List (List Entry)) (k d : ℕ) → k < length lists → get_or (map g lists) k d ≡ g (get_or lists k [])
 at_map g [] k d h = absurd (omega (arith, h))
 at_map g (l ∷ ls) zero d h = refl
 at_map g (l ∷ ls) (suc k) d h = at_map g ls k d (omega (arith, h))

@@ -16,11 +16,17 @@ use Rattle.sl_instance.specs.NamedMarket.{NamedMarket}
 use Rattle.sl_instance.specs.Assembly.{IsAssembled}
 use Rattle.sl_instance.specs.Causes.{merits_fault}
 use Rattle.sl_doc.specs.Reading.{doc_fault}
-use Rattle.sl_run.specs.Words.{File, Inputs}
+use Rattle.sl_run.specs.Words.{Command, clear, check, demo, File, Inputs}
 
 -- a shelf tells what its files hold
 abbrev pub IsTold : Files → Type 0
 IsTold shelf = shelf.tells ≡ true
+
+-- it does to a command that reads files; to one that reads none there is nothing to tell
+abbrev pub IsToldTo : Files → Command → Type 0
+IsToldTo shelf (clear workers tables) = IsTold shelf
+IsToldTo shelf (check tables document) = IsTold shelf
+IsToldTo shelf (demo applicants workers) = ⊤
 
 -- a file is told, is no longer than a file may be, and its text passes
 abbrev pub Holds : Files → List ℕ → (List ℕ → Type 0) → Type 0

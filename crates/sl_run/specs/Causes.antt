@@ -6,7 +6,7 @@ use Rattle.sl_instance.specs.NamedMarket.{NamedMarket}
 use Rattle.sl_run.specs.declared.failure.Failure.{Failure}
 use Rattle.sl_run.specs.declared.failure.Failure.TheVariants.{Words, Refused, TooLong, Unreadable, Unwritable, OutOfMemory}
 use Rattle.sl_run.specs.Words.{Command, File, Inputs, inputs_of, AreWordsOf, AreNoCommand, StandsAt}
-use Rattle.sl_run.specs.Accepted.{IsTold, Holds, Hold, AreAccepted, AreHeld, IsRefused, IsTooLong, IsStop, fault_in}
+use Rattle.sl_run.specs.Accepted.{IsTold, IsToldTo, Holds, Hold, AreAccepted, AreHeld, IsRefused, IsTooLong, IsStop, fault_in}
 use Rattle.sl_run.specs.Ending.{IsDone}
 
 -- the count of faults of a file rose
@@ -63,6 +63,7 @@ AreFaultless shelf inputs = EachFile inputs (λ earlier file.
 -- the output
 abbrev pub Completes : List (List ℕ) → Files → Files → Output → Output → ℕ → Type 0
 Completes words before after out_before out_after status =
-    IsTold before → (command : Command) → AreWordsOf words command → AreFaultless before (inputs_of command)
+    (command : Command) → AreWordsOf words command
+    → IsToldTo before command → AreFaultless before (inputs_of command)
     → IsDone command status ⊎ (status ≡ 6)
     ⊎ Any (RoseOf before after) (inputs_of command).files ⊎ RoseIn out_before out_after

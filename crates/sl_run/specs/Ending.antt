@@ -6,7 +6,7 @@ use Rattle.sl_instance.specs.NamedMarket.{NamedMarket}
 use Rattle.sl_io.specs.Sink.{Output, Takes, TakesPart, RoseIn}
 use Rattle.sl_run.specs.declared.failure.Failure.{Failure}
 use Rattle.sl_run.specs.Failures.{status_of, line_of}
-use Rattle.sl_run.specs.Words.{Command, clear, check}
+use Rattle.sl_run.specs.Words.{Command, clear, check, demo}
 
 -- a status, and a line for people, if there is one
 pub record Ending : Type 0 where
@@ -27,8 +27,9 @@ IsQuiet status ending = ending ≡ quiet status
 
 -- how a command ends that was carried out, by the verdict on its document over its instance; a clearing has none
 abbrev pub ending_of : Command → NamedMarket → Verdict → Ending
-ending_of (clear tables) n verdict = quiet 0
+ending_of (clear workers tables) n verdict = quiet 0
 ending_of (check tables document) n verdict = quiet (status_of_verdict verdict)
+ending_of (demo applicants workers) n verdict = quiet 0
 
 -- how a command ends that failed
 abbrev pub failed : Failure → Ending

@@ -4,6 +4,7 @@ pub mod Failures
 pub mod Causes
 pub mod Fetching
 pub mod Ending
-pub mod Clearing
 pub mod Result
+pub mod Receipt
+pub mod Summary
 pub mod Run

@@ -1,11 +1,13 @@
 -- What a command does, from the files that it names to the text that it writes.
-use Rattle.std.specs.Prelude.{◌≡◌, ◌⊎◌, ⊤, ℕ, Bool, true, false, List, []}
+use Rattle.std.specs.Prelude.{◌≡◌, ◌⊎◌, ⊤, ℕ, Bool, true, false, List, [], Option, None, IsSomeAnd}
 use Rattle.sl_io.specs.Shelf.{Files}
 use Rattle.sl_io.specs.Sink.{Output, Takes, TakesPart, RoseIn}
 use Rattle.sl_check.specs.declared.verdict.Verdict.{Verdict}
 use Rattle.sl_check.specs.Verdict.{IsVerdict}
 use Rattle.sl_types.specs.declared.kinds.Rule.{Rule}
 use Rattle.sl_types.specs.Valid.{IsValid}
+use Rattle.sl_floor.specs.Ending.{Closing}
+use Rattle.sl_gen.specs.Round.{generated}
 use Rattle.sl_instance.specs.NamedMarket.{NamedMarket, IsNamed}
 use Rattle.sl_codes.specs.RecordText.{text_of_record}
 use Rattle.sl_doc.specs.Document.{Document}
@@ -13,9 +15,12 @@ use Rattle.sl_doc.specs.ResultText.{result_text}
 use Rattle.sl_doc.specs.VerdictText.{verdict_record}
 use Rattle.sl_run.specs.declared.failure.Failure.{Failure}
 use Rattle.sl_run.specs.declared.failure.Failure.TheVariants.{Words, Unwritable, OutOfMemory}
+use Rattle.sl_run.specs.declared.ended.Ended.{Ended}
+use Rattle.sl_run.specs.Receipt.{IsClearedOn}
 use Rattle.sl_run.specs.Result.{IsResultOf}
-use Rattle.sl_run.specs.Words.{TableNames, Command, clear, check, inputs_of, letter_rule, tables_and, AreWordsOf}
-use Rattle.sl_run.specs.Accepted.{IsTold, Holds, Hold, AreAccepted, AreHeld}
+use Rattle.sl_run.specs.Summary.{summary_text}
+use Rattle.sl_run.specs.Words.{TableNames, Command, clear, check, demo, inputs_of, letter_rule, tables_and, AreWordsOf}
+use Rattle.sl_run.specs.Accepted.{IsToldTo, Holds, Hold, AreAccepted, AreHeld}
 use Rattle.sl_run.specs.Fetching.{GivesDocument}
 use Rattle.sl_run.specs.Causes.{IsCauseOf, AreFaultless}
 use Rattle.sl_run.specs.Ending.{Ending, ending_of, failed, EndsWith, IsQuiet, IsDoneQuietly}
@@ -36,35 +41,47 @@ pub record IsJudged (shelf : Files) (rule : Rule) (document : List ℕ) (n : Nam
   pub read : Holds shelf document (GivesDocument n rule doc)
   pub right : IsVerdict n.market doc.raises doc.limits doc.admitted doc.counts verdict
 
--- what a command comes to over the instance of its tables: its verdict, and the text that it writes
-abbrev pub ComesTo : Files → Command → NamedMarket → Verdict → List ℕ → Type 0
-ComesTo shelf (clear tables) n verdict text =
-    (doc : Document) × IsCleared n doc × (text ≡ result_text n (letter_rule tables.letter) doc)
-ComesTo shelf (check tables document) n verdict text =
-    IsJudged shelf (letter_rule tables.letter) document n verdict
-    × (text ≡ text_of_record (verdict_record n verdict))
+-- an instance is the generated round of so many applicants, and a document is its result
+pub record IsGenerated (applicants : ℕ) (n : NamedMarket) (doc : Document) : Type 0 where
+  pub market : n.market ≡ generated applicants
+  pub result : IsResultOf n.market doc
 
--- a command was carried out: its files are accepted as those of an instance, its text was put, and it ended as its
--- verdict asks
+-- what a command comes to over its instance, which is that of its tables or a generated one: its verdict, the
+-- receipt that it answers, and the text that it writes
+abbrev pub ComesTo : Files → Command → NamedMarket → Verdict → Option Closing → List ℕ → Type 0
+ComesTo shelf (clear workers tables) n verdict receipt text =
+    (doc : Document) × IsCleared n doc × IsSomeAnd receipt (IsClearedOn n.market doc)
+    × (text ≡ result_text n (letter_rule tables.letter) doc)
+ComesTo shelf (check tables document) n verdict receipt text =
+    IsJudged shelf (letter_rule tables.letter) document n verdict
+    × (receipt ≡ None) × (text ≡ text_of_record (verdict_record n verdict))
+ComesTo shelf (demo applicants workers) n verdict receipt text =
+    (doc : Document) × IsGenerated applicants n doc × IsSomeAnd receipt (IsClearedOn n.market doc)
+    × (text ≡ summary_text n.market doc.limits)
+
+-- a command was carried out: its files are accepted as those of an instance, its text was put, it ended as its
+-- verdict asks, and this is the receipt, if there is one
 pub record IsCarriedOut (shelf : Files) (command : Command) (IsPut : List ℕ → Type 0) (HasEnding : Ending → Type 0)
-    : Type 0 where
+    (receipt : Option Closing) : Type 0 where
   pub n : NamedMarket
   pub held : AreAccepted shelf (inputs_of command) n
   pub verdict : Verdict
   pub text : List ℕ
-  pub comes : ComesTo shelf command n verdict text
+  pub comes : ComesTo shelf command n verdict receipt text
   pub put : IsPut text
   pub ends : HasEnding (ending_of command n verdict)
 
--- it was, where the files are told, with nothing for people
-abbrev pub Performs : Files → Command → Output → Output → ℕ → Type 0
-Performs shelf command before after status =
-    IsTold shelf → IsCarriedOut shelf command (Takes before after) (IsQuiet status)
+-- it was, where its files are told, with nothing for people
+abbrev pub Performs : Files → Command → Output → Output → Ended → Type 0
+Performs shelf command before after ended =
+    IsToldTo shelf command
+    → IsCarriedOut shelf command (Takes before after) (IsQuiet ended.status) ended.receipt
 
 -- it was broken off: a part of its text was put, however it would have ended
 abbrev pub PerformsPart : Files → Command → Output → Output → Type 0
 PerformsPart shelf command before after =
-    IsTold shelf → IsCarriedOut shelf command (TakesPart before after) (λ ending. ⊤)
+    IsToldTo shelf command → (receipt : Option Closing)
+    × IsCarriedOut shelf command (TakesPart before after) (λ ending. ⊤) receipt
 
 -- what a failure leaves of the output: a part of the text where the output failed, that or nothing new where memory
 -- ran out, and else nothing new
@@ -82,16 +99,16 @@ is_of_files Words = false
 is_of_files Unwritable = false
 is_of_files failure = true
 
--- where the files are told, the words are those of a command, and it was carried out
-abbrev pub CarriesOut : List (List ℕ) → Files → Output → Output → (Ending → Type 0) → Type 0
-CarriesOut words shelf before after HasEnding =
-    IsTold shelf → (command : Command) × AreWordsOf words command
-    × IsCarriedOut shelf command (Takes before after) HasEnding
+-- the words are those of a command, and where its files are told it was carried out
+abbrev pub CarriesOut : List (List ℕ) → Files → Output → Output → (Ending → Type 0) → Option Closing → Type 0
+CarriesOut words shelf before after HasEnding receipt =
+    (command : Command) × AreWordsOf words command
+    × (IsToldTo shelf command → IsCarriedOut shelf command (Takes before after) HasEnding receipt)
 
--- where they are told, the words are those of a command, and it was broken off
+-- the words are those of a command, and where its files are told it was broken off
 abbrev pub BreaksOff : List (List ℕ) → Files → Output → Output → Type 0
 BreaksOff words shelf before after =
-    IsTold shelf → (command : Command) × AreWordsOf words command × PerformsPart shelf command before after
+    (command : Command) × AreWordsOf words command × PerformsPart shelf command before after
 
 -- the words are those of a command that ends with this status, and with nothing for people
 abbrev pub EndQuietly : List (List ℕ) → ℕ → Type 0
@@ -111,6 +128,19 @@ abbrev pub EndsUntold : List (List ℕ) → Output → Output → ℕ → Type 0
 EndsUntold words err_before err_after status =
     (before : Files) × (after : Files) × (before.tells ≡ false)
     × Ends words before after err_before err_after status
+
+-- over such files, the words are those of a command that was carried out: what it wrote is known where it reads none
+abbrev pub CarriesOutUntold : List (List ℕ) → Output → Output → Type 0
+CarriesOutUntold words before after =
+    (shelf : Files) × (shelf.tells ≡ false) × (receipt : Option Closing)
+    × CarriesOut words shelf before after (λ ending. ⊤) receipt
+
+-- what a demo writes follows from the number of its applicants alone, however many workers there are
+abbrev pub DemosAreOne : Type 0
+DemosAreOne = (shelf shelf' : Files) (applicants workers workers' : ℕ) (n n' : NamedMarket)
+    (verdict verdict' : Verdict) (receipt receipt' : Option Closing) (text text' : List ℕ)
+    → ComesTo shelf (demo applicants workers) n verdict receipt text
+    → ComesTo shelf' (demo applicants workers') n' verdict' receipt' text' → text ≡ text'
 
 -- files hold the tables of one instance at most, with one list of codes each
 abbrev pub TablesAreOne : Type 0

@@ -1,11 +1,14 @@
 -- The commands, their words and the files that they read.
-use Rattle.std.specs.Prelude.{◌≡◌, List, [], ◌∷◌, ℕ, codes, map, string_bytes, String, Option, Some, None, option_map, if◌then◌else◌, slice_get}
+use Rattle.std.specs.Prelude.{◌≡◌, ◌≤◌, ⊤, Bool, true, false, List, [], ◌∷◌, ℕ, codes, map, string_bytes, String, Option, Some, None, option_map, option_and_then, if◌then◌else◌, slice_get}
 use Rattle.std.specs.Str.{bytes_eq}
 use Rattle.std.specs.declared.alloc.Global.{Global}
 use Rattle.sl_types.specs.declared.kinds.Rule.{Rule}
+use Rattle.sl_types.specs.declared.kinds.TheConstants.{MAX_APPLICANTS}
 use Rattle.sl_types.specs.declared.kinds.Rule.TheVariants as rule
 use Rattle.sl_codes.specs.declared.faults.Table.{Table}
 use Rattle.sl_codes.specs.declared.faults.Table.TheVariants.{Pools, Programmes, Applications, Results}
+use Rattle.sl_codes.specs.Fields.{number_within}
+use Rattle.sl_run.specs.declared.words.TheConstants.{MAX_WORKERS}
 use Rattle.sl_run.specs.declared.words.Letter.{Letter}
 use Rattle.sl_run.specs.declared.words.Letter.TheVariants.{H, L}
 use Rattle.sl_run.specs.declared.words.Tables as spoken_tables
@@ -26,10 +29,11 @@ pub record TableNames : Type 0 where
 abbrev pub names_of : Letter → List ℕ → List ℕ → List ℕ → TableNames
 names_of l p g a = record { letter = l; pools = p; programmes = g; applications = a }
 
--- a command, with the names of its files
+-- a command, with its numbers and the names of its files
 pub data Command : Type 0 where
-  clear : (tables : TableNames) → Command
+  clear : (workers : ℕ) (tables : TableNames) → Command
   check : (tables : TableNames) (document : List ℕ) → Command
+  demo : (applicants workers : ℕ) → Command
 
 -- the rule that a letter gives to pools of kind `score`
 abbrev pub letter_rule : Letter → Rule
@@ -42,10 +46,17 @@ letter_of word =
     if bytes_eq word (codes "H") then Some H
     else (if bytes_eq word (codes "L") then Some L else None)
 
--- `R 1 pools programmes applications`
+-- the numbers of workers and of applicants that words of 1 to 9 digits are
+abbrev pub workers_of : List ℕ → Option ℕ
+workers_of word = number_within 1 MAX_WORKERS word
+
+abbrev pub applicants_of : List ℕ → Option ℕ
+applicants_of word = number_within 1 MAX_APPLICANTS word
+
+-- `R W pools programmes applications`
 abbrev pub clear_of : List (List ℕ) → Option Command
 clear_of (letter ∷ workers ∷ p ∷ g ∷ a ∷ []) =
-    if bytes_eq workers (codes "1") then option_map (λ l. clear (names_of l p g a)) (letter_of letter) else None
+    option_and_then (λ l. option_map (λ w. clear w (names_of l p g a)) (workers_of workers)) (letter_of letter)
 clear_of words = None
 
 -- `R pools programmes applications result`
@@ -54,12 +65,19 @@ check_of (letter ∷ p ∷ g ∷ a ∷ document ∷ []) =
     option_map (λ l. check (names_of l p g a) document) (letter_of letter)
 check_of words = None
 
+-- `n W`
+abbrev pub demo_of : List (List ℕ) → Option Command
+demo_of (applicants ∷ workers ∷ []) =
+    option_and_then (λ n. option_map (λ w. demo n w) (workers_of workers)) (applicants_of applicants)
+demo_of words = None
+
 -- the command that words are: its name, and the words of its form
 abbrev pub command_of : List (List ℕ) → Option Command
 command_of [] = None
 command_of (name ∷ words) =
     if bytes_eq name (codes "clear") then clear_of words
-    else (if bytes_eq name (codes "check") then check_of words else None)
+    else (if bytes_eq name (codes "check") then check_of words
+    else (if bytes_eq name (codes "demo") then demo_of words else None))
 
 -- words that are those of this command, and of none
 abbrev pub AreWordsOf : List (List ℕ) → Command → Type 0
@@ -72,13 +90,41 @@ AreNoCommand words = command_of words ≡ None
 abbrev pub IsCheck : List (List ℕ) → Type 0
 IsCheck words = (tables : TableNames) × (document : List ℕ) × AreWordsOf words (check tables document)
 
+-- they are those of a demo
+abbrev pub IsDemo : List (List ℕ) → Type 0
+IsDemo words = (applicants : ℕ) × (workers : ℕ) × AreWordsOf words (demo applicants workers)
+
+-- whether a command clears an instance
+abbrev pub is_clearing : Command → Bool
+is_clearing (clear workers tables) = true
+is_clearing (check tables document) = false
+is_clearing (demo applicants workers) = true
+
+-- the words are those of a command that does
+abbrev pub IsClearing : List (List ℕ) → Type 0
+IsClearing words = (command : Command) × AreWordsOf words command × (is_clearing command ≡ true)
+
+-- a number of workers, and of applicants, that a command can have
+abbrev pub AreWorkers : ℕ → Type 0
+AreWorkers workers = (1 ≤ workers) × (workers ≤ MAX_WORKERS)
+
+abbrev pub AreApplicants : ℕ → Type 0
+AreApplicants applicants = (1 ≤ applicants) × (applicants ≤ MAX_APPLICANTS)
+
+-- the numbers of a command are in range
+abbrev pub HasRanges : Command → Type 0
+HasRanges (clear workers tables) = AreWorkers workers
+HasRanges (check tables document) = ⊤
+HasRanges (demo applicants workers) = AreApplicants applicants × AreWorkers workers
+
 -- tables and a command that the program has read, by the texts of their names
 abbrev pub tables_in : spoken_tables.Tables → TableNames
 tables_in t = names_of t.letter t.pools.now t.programmes.now t.applications.now
 
 abbrev pub command_in : spoken.Command → Command
-command_in (form.Clear tables) = clear (tables_in tables)
+command_in (form.Clear workers tables) = clear workers (tables_in tables)
 command_in (form.Check tables document) = check (tables_in tables) document.now
+command_in (form.Demo applicants workers) = demo applicants workers
 
 -- a file of a command: its table, and its name
 pub record File : Type 0 where
@@ -100,9 +146,14 @@ tables_and t more = record {
   files = file_of Pools t.pools ∷ file_of Programmes t.programmes ∷ file_of Applications t.applications ∷ more;
 }
 
+-- no file; the rule is that of no pool
+abbrev pub no_inputs : Inputs
+no_inputs = record { rule = rule.H; files = [] }
+
 abbrev pub inputs_of : Command → Inputs
-inputs_of (clear tables) = tables_and tables []
+inputs_of (clear workers tables) = tables_and tables []
 inputs_of (check tables document) = tables_and tables (file_of Results document ∷ [])
+inputs_of (demo applicants workers) = no_inputs
 
 -- what three tables alone are read as
 abbrev pub inputs_in : spoken_tables.Tables → Inputs

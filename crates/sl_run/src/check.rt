@@ -9,6 +9,7 @@ ghost use Rattle.sl_run.specs.Accepted.{IsTold, AreReadAs, document_fault};
 ghost use Rattle.sl_run.specs.Fetching.{Reads, GivesDocument, IsFileCause};
 ghost use Rattle.sl_run.specs.Causes.{IsCause};
 ghost use Rattle.sl_run.specs.Ending.{IsDoneQuietly, status_of_verdict};
+ghost use Rattle.sl_run.specs.Receipt.{ended_without};
 ghost use Rattle.sl_run.specs.Run.{IsJudged, Performs, LeavesOf, is_of_files};
 
 use crate::failure::Failure;
@@ -114,7 +115,8 @@ pub fn check_to<S: Shelf, O: Sink>(
     out: &mut O,
 ) -> Result<u8, Failure>
     ensures carried_out { let command = check (tables_in tables.entry) document.now in
-        IfOk result (Performs (S.files shelf.old) command (O.output out.old) (O.output out.new)) }
+        let by = Performs (S.files shelf.old) command (O.output out.old) (O.output out.new) in
+        IfOk result (λ status. by (ended_without status)) }
     ensures done { IfOk result (IsDoneQuietly (check (tables_in tables.entry) document.now)) }
     ensures left { let command = check (tables_in tables.entry) document.now in
         let same = out.new ≡ out.old in

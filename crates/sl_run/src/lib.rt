@@ -3,16 +3,19 @@
 
 mod check;
 mod clear;
-mod clearing;
 mod command;
+mod demo;
+mod ended;
 mod failure;
 mod files;
 mod outcome;
+mod summary;
 mod theorems;
 mod words;
 
 pub use command::run;
-pub use theorems::{tables_are_one, tables_have_instance};
+pub use ended::Ended;
+pub use theorems::{demos_are_one, tables_are_one, tables_have_instance};
 
 #[cfg(test)]
 mod tests;

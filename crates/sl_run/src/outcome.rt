@@ -1,49 +1,81 @@
 ghost use Rattle.std.specs.Prelude.{IfOk};
 ghost use Rattle.sl_doc.specs.Document.{IsInRange};
+ghost use Rattle.sl_run.specs.Receipt.{IsClearedOn};
 ghost use Rattle.sl_run.specs.Result.{IsResultOf};
+ghost use Rattle.sl_run.specs.Words.{AreWorkers};
 
-use crate::clearing::clear;
 use sl_admit::{admissions, counts};
 use sl_contend::Contenders;
+use sl_desk::Gate;
 use sl_doc::Doc;
+use sl_floor::Receipt;
 use sl_instance::Named;
-use sl_nested::Mixed;
+use sl_team::{Cleared, clear};
 use sl_types::{Instance, OutOfMemory};
 use std::alloc::Global;
 use std::thread::Threads;
 
-// The least stable limits, raises that prove them, and the admissions that they make.
-fn outcome_of(
+// How many entries the log of a worker holds in a round.
+const LOG_ROOM: usize = 65_536;
+
+/// Clears an instance with so many workers: the least stable limits, raises that prove them, the
+/// admissions that they make, and the receipt of the floor.
+pub fn outcome_of<G: Gate>(
     rt: &(impl Threads + Sync),
     alloc: Global,
     instance: &Instance,
-) -> Result<Doc, OutOfMemory>
-    ensures { IfOk result (IsResultOf instance.now) }
+    workers: u32,
+    gate: &G,
+) -> Result<(Doc, Receipt), OutOfMemory>
+    requires { AreWorkers workers }
+    ensures result { IfOk result (λ r. IsResultOf instance.now r.0) }
+    ensures receipt { IfOk result (λ r. IsClearedOn instance.now r.0 r.1) }
 {
     let contenders = Contenders::new(alloc, instance)?;
-    let clearing = clear(alloc, &Mixed, instance, &contenders)?;
-    let admitted = admissions(rt, alloc, instance, &clearing.limits)?;
+    let cleared = clear(
+        rt,
+        alloc,
+        instance,
+        &contenders,
+        &[],
+        workers,
+        LOG_ROOM,
+        0,
+        gate,
+    )?;
+    let Cleared {
+        limits,
+        raises,
+        seen: _,
+        receipt,
+    } = cleared;
+    let admitted = admissions(rt, alloc, instance, &limits)?;
     let counts = counts(alloc, instance, &admitted)?;
-    Ok(Doc {
-        limits: clearing.limits,
+    let doc = Doc {
+        limits,
         counts,
         admitted,
-        raises: clearing.raises,
-    })
+        raises,
+    };
+    Ok((doc, receipt))
 }
 
-/// The result of an instance, whose numbers are those of a document.
+/// The result of an instance, whose numbers are those of a document, and the receipt of the floor.
 #[tactic(auto, using(crate::proofs::Ranges::result_in_range))]
-pub fn result_of(
+pub fn result_of<G: Gate>(
     rt: &(impl Threads + Sync),
     alloc: Global,
     named: &Named,
-) -> Result<Doc, OutOfMemory>
-    ensures result { IfOk result (IsResultOf named.now.market) }
-    ensures in_range { IfOk result (IsInRange named.now) }
+    workers: u32,
+    gate: &G,
+) -> Result<(Doc, Receipt), OutOfMemory>
+    requires { AreWorkers workers }
+    ensures result { IfOk result (λ r. IsResultOf named.now.market r.0) }
+    ensures receipt { IfOk result (λ r. IsClearedOn named.now.market r.0 r.1) }
+    ensures in_range { IfOk result (λ r. IsInRange named.now r.0) }
 {
     let instance = named.instance();
     // An instance is well formed, and has few enough applicants.
     let (_pools, _applicants) = (instance.pools(), instance.applicants());
-    outcome_of(rt, alloc, instance)
+    outcome_of(rt, alloc, instance, workers, gate)
 }

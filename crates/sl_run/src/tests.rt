@@ -1,4 +1,5 @@
 use super::*;
+use sl_desk::OpenGate;
 use sl_io::{MemShelf, MemSink};
 use std::alloc::{AllocError, Global};
 use std::process::Abort;
@@ -7,8 +8,10 @@ use std::thread::Threads;
 
 mod checking;
 mod clearing;
+mod demo;
 mod faults;
 mod fetching;
+mod meeting;
 mod nesting;
 mod refusals;
 mod replaying;
@@ -132,8 +135,16 @@ fn expect<R: Abort + AllocGlobal + Threads + Sync>(
     let mut shelf = shelf_of(rt.alloc(), inputs)?;
     let mut out = MemSink::new(rt.alloc(), ending.room)?;
     let mut err = MemSink::new(rt.alloc(), 1000)?;
-    let status = run(rt, rt.alloc(), &words, &mut shelf, &mut out, &mut err);
-    assert_eq!(rt; status, ending.status, "{name}");
+    let ended = run(
+        rt,
+        rt.alloc(),
+        &words,
+        &mut shelf,
+        &mut out,
+        &mut err,
+        &OpenGate,
+    );
+    assert_eq!(rt; ended.status, ending.status, "{name}");
     assert!(rt; is_text(out.bytes(), ending.out), "{name}");
     assert!(rt; is_text(err.bytes(), ending.err), "{name}");
     Ok(())

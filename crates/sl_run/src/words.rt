@@ -1,8 +1,14 @@
-ghost use Rattle.std.specs.Prelude.{◌≡◌, ◌≢◌, option_map};
+ghost use Rattle.std.specs.Prelude.{◌≡◌, ◌≢◌, option_map, IfSome};
 ghost use Rattle.sl_types.specs.declared.kinds.Rule.TheVariants.{Merit};
-ghost use Rattle.sl_run.specs.Words.{texts_of, command_in, command_of, clear_of, check_of, letter_of, letter_rule};
+ghost use Rattle.sl_codes.specs.Fields.{number_within};
+ghost use Rattle.sl_run.specs.Words.{texts_of, command_in, command_of, HasRanges};
+ghost use Rattle.sl_run.specs.Words.{clear_of, check_of, demo_of, letter_of, letter_rule};
 
-use sl_types::Rule;
+use sl_codes::number_within;
+use sl_types::{MAX_APPLICANTS, Rule};
+
+/// How many workers there can be.
+pub const MAX_WORKERS: u32 = 64;
 
 /// The letter of a command: the rule of the pools of kind `score`.
 #[derive(Clone, Copy, Debug, PartialEq, Eq)]
@@ -47,8 +53,9 @@ pub struct Tables<'a> {
 /// A command, with its files.
 #[derive(Clone, Copy, Debug)]
 pub enum Command<'a> {
-    /// `clear R 1 pools programmes applications`
+    /// `clear R W pools programmes applications`
     Clear {
+        workers: u32,
         tables: Tables<'a>,
     },
     /// `check R pools programmes applications result`
@@ -56,12 +63,25 @@ pub enum Command<'a> {
         tables: Tables<'a>,
         document: &'a str,
     },
+    /// `demo n W`
+    Demo {
+        applicants: u32,
+        workers: u32,
+    },
+}
+
+// The number from 1 to a greatest one that a word of digits is.
+fn count_of(word: &str, most: u32) -> Option<u32>
+    ensures { result ≡ number_within 1 most word.now }
+{
+    number_within(word.as_bytes(), 1, most).ok()
 }
 
 impl<'a> Command<'a> {
     /// The command that words are: its name, and the words of its form.
     pub fn of(words: &'a [String]) -> Option<Command<'a>>
-        ensures { option_map (λ c. command_in c) result ≡ command_of (texts_of words.now) }
+        ensures command { option_map (λ c. command_in c) result ≡ command_of (texts_of words.now) }
+        ensures ranges { IfSome result (λ c. HasRanges (command_in c)) }
     {
         let [name, words @ ..] = words else {
             return None;
@@ -69,32 +89,34 @@ impl<'a> Command<'a> {
         match name.as_str() {
             "clear" => Command::clear_of(words),
             "check" => Command::check_of(words),
+            "demo" => Command::demo_of(words),
             _ => None,
         }
     }
 
-    // `R 1 pools programmes applications`
+    // `R W pools programmes applications`
     fn clear_of(words: &'a [String]) -> Option<Command<'a>>
-        ensures { option_map (λ c. command_in c) result ≡ clear_of (texts_of words.now) }
+        ensures command { option_map (λ c. command_in c) result ≡ clear_of (texts_of words.now) }
+        ensures ranges { IfSome result (λ c. HasRanges (command_in c)) }
     {
         match words {
-            [letter, workers, pools, programmes, applications] if workers.as_str() == "1" => {
-                Some(Command::Clear {
-                    tables: Tables {
-                        letter: Letter::of(letter.as_str())?,
-                        pools: pools.as_str(),
-                        programmes: programmes.as_str(),
-                        applications: applications.as_str(),
-                    },
-                })
-            }
+            [letter, workers, pools, programmes, applications] => Some(Command::Clear {
+                tables: Tables {
+                    letter: Letter::of(letter.as_str())?,
+                    pools: pools.as_str(),
+                    programmes: programmes.as_str(),
+                    applications: applications.as_str(),
+                },
+                workers: count_of(workers.as_str(), MAX_WORKERS)?,
+            }),
             _ => None,
         }
     }
 
     // `R pools programmes applications result`
     fn check_of(words: &'a [String]) -> Option<Command<'a>>
-        ensures { option_map (λ c. command_in c) result ≡ check_of (texts_of words.now) }
+        ensures command { option_map (λ c. command_in c) result ≡ check_of (texts_of words.now) }
+        ensures ranges { IfSome result (λ c. HasRanges (command_in c)) }
     {
         match words {
             [letter, pools, programmes, applications, document] => Some(Command::Check {
@@ -105,6 +127,20 @@ impl<'a> Command<'a> {
                     applications: applications.as_str(),
                 },
                 document: document.as_str(),
+            }),
+            _ => None,
+        }
+    }
+
+    // `n W`
+    fn demo_of(words: &'a [String]) -> Option<Command<'a>>
+        ensures command { option_map (λ c. command_in c) result ≡ demo_of (texts_of words.now) }
+        ensures ranges { IfSome result (λ c. HasRanges (command_in c)) }
+    {
+        match words {
+            [applicants, workers] => Some(Command::Demo {
+                applicants: count_of(applicants.as_str(), MAX_APPLICANTS as u32)?,
+                workers: count_of(workers.as_str(), MAX_WORKERS)?,
             }),
             _ => None,
         }

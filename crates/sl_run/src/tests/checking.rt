@@ -162,9 +162,17 @@ fn cut_documents(rt: HostRuntime) -> Result<(), Fail> {
         )?;
         let mut out = MemSink::new(rt.alloc(), 1000)?;
         let mut err = MemSink::new(rt.alloc(), 1000)?;
-        let status = run(&rt, rt.alloc(), &words, &mut shelf, &mut out, &mut err);
+        let ended = run(
+            &rt,
+            rt.alloc(),
+            &words,
+            &mut shelf,
+            &mut out,
+            &mut err,
+            &OpenGate,
+        );
         let is_whole = length + 1 == whole.len();
-        assert_eq!(rt; status, if is_whole { 0 } else { 3 }, "{length}");
+        assert_eq!(rt; ended.status, if is_whole { 0 } else { 3 }, "{length}");
         assert_eq!(rt; out.bytes().is_empty(), !is_whole, "{length}");
     }
     Ok(())

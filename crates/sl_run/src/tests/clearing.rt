@@ -1,4 +1,5 @@
 use super::*;
+use std::str;
 
 // Tables, and the document that a letter makes of them.
 #[derive(Clone, Copy)]
@@ -9,6 +10,18 @@ pub struct Case {
     pub programmes: &'static str,
     pub applications: &'static str,
     pub text: &'static str,
+}
+
+impl Case {
+    fn inputs(&self) -> Inputs<'static> {
+        Inputs {
+            pools: self.pools.as_bytes(),
+            programmes: self.programmes.as_bytes(),
+            applications: self.applications.as_bytes(),
+            document: &[],
+            fails: &[],
+        }
+    }
 }
 
 const TIED: &str = "applicant,place,programme,score\nx,1,a,10\ny,1,a,10\nz,1,a,5\n";
@@ -28,24 +41,90 @@ const FACULTIES: Case = Case {
         raise,BME-VIK,448,\nraise,\"ELTE IK, nappali\",453,\nend,10,,\n",
 };
 
+// Checks a document of a case, which is right.
+fn expect_right<R: Abort + AllocGlobal + Threads + Sync>(
+    rt: &R,
+    case: Case,
+    document: &[u8],
+) -> Result<(), Fail> {
+    let inputs = Inputs {
+        document,
+        ..case.inputs()
+    };
+    let mut check = CHECK;
+    check[1] = case.letter;
+    expect(rt, case.name, &check, inputs, done("verdict,Yes,,\n"))
+}
+
+// Clears with many workers. The raises may differ from those of one worker, and the records before
+// them don't.
+fn expect_cleared_by_many<R: Abort + AllocGlobal + Threads + Sync>(
+    rt: &R,
+    case: Case,
+    workers: &'static str,
+) -> Result<(), Fail> {
+    let mut clear = CLEAR;
+    clear[1] = case.letter;
+    clear[2] = workers;
+    let words = words_of(rt.alloc(), &clear)?;
+    let mut shelf = shelf_of(rt.alloc(), case.inputs())?;
+    let mut out = MemSink::new(rt.alloc(), 1000)?;
+    let mut err = MemSink::new(rt.alloc(), 1000)?;
+    let ended = run(
+        rt,
+        rt.alloc(),
+        &words,
+        &mut shelf,
+        &mut out,
+        &mut err,
+        &OpenGate,
+    );
+    assert_eq!(rt; ended.status, 0, "{}", case.name);
+    assert!(rt; ended.receipt.is_some(), "{}", case.name);
+    let found = str::from_utf8(out.bytes()).unwrap_or("");
+    assert_eq!(rt;
+        without_raises(found),
+        without_raises(case.text),
+        "{}",
+        case.name
+    );
+    expect_right(rt, case, out.bytes())
+}
+
+// The records of a document before its raises.
+fn without_raises(document: &str) -> &str {
+    match document.find("\nraise,") {
+        Some(at) => &document[..at],
+        None => match document.find("\nend,") {
+            Some(at) => &document[..at],
+            None => document,
+        },
+    }
+}
+
 // Clears, and checks the document that comes of it.
 pub fn expect_cleared<R: Abort + AllocGlobal + Threads + Sync>(
     rt: &R,
     case: Case,
 ) -> Result<(), Fail> {
-    let inputs = Inputs {
-        pools: case.pools.as_bytes(),
-        programmes: case.programmes.as_bytes(),
-        applications: case.applications.as_bytes(),
-        document: case.text.as_bytes(),
-        fails: &[],
-    };
     let mut clear = CLEAR;
     clear[1] = case.letter;
-    expect(rt, case.name, &clear, inputs, done(case.text))?;
-    let mut check = CHECK;
-    check[1] = case.letter;
-    expect(rt, case.name, &check, inputs, done("verdict,Yes,,\n"))
+    expect(rt, case.name, &clear, case.inputs(), done(case.text))?;
+    expect_right(rt, case, case.text.as_bytes())?;
+    for workers in ["2", "64"] {
+        expect_cleared_by_many(rt, case, workers)?;
+    }
+    Ok(())
+}
+
+#[test]
+fn leading_zeros(rt: HostRuntime) -> Result<(), Fail> {
+    let mut clear = CLEAR;
+    for workers in ["01", "000000001"] {
+        clear[2] = workers;
+        expect(&rt, workers, &clear, displaced(), done(DISPLACED_TEXT))?;
+    }
+    Ok(())
 }
 
 #[test]

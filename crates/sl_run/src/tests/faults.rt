@@ -9,10 +9,17 @@ fn expect_broken_off<R: Abort + AllocGlobal + Threads + Sync>(
     let mut shelf = shelf_of(rt.alloc(), displaced())?;
     let mut out = MemSink::new(rt.alloc(), room)?;
     let mut err = MemSink::new(rt.alloc(), 1000)?;
-    assert_eq!(rt;
-        run(rt, rt.alloc(), &words, &mut shelf, &mut out, &mut err),
-        5
+    let ended = run(
+        rt,
+        rt.alloc(),
+        &words,
+        &mut shelf,
+        &mut out,
+        &mut err,
+        &OpenGate,
     );
+    assert_eq!(rt; ended.status, 5);
+    assert!(rt; ended.receipt.is_none());
     assert_eq!(rt; out.bytes().len(), room);
     assert!(rt; DISPLACED_TEXT.as_bytes().starts_with(out.bytes()));
     assert!(rt; is_text(err.bytes(), "output: cannot be written\n"));
@@ -96,7 +103,9 @@ fn faulty_words(rt: HostRuntime) -> Result<(), Fail> {
     for (command, letter, workers) in [
         ("clear", "H", "0"),
         ("clear", "H", "65"),
-        ("clear", "H", "01"),
+        ("clear", "H", ""),
+        ("clear", "H", "+1"),
+        ("clear", "H", "0000000001"),
         ("clear", "h", "1"),
         ("clear", "Merit", "1"),
         ("check", "M", "pools"),
@@ -122,4 +131,20 @@ fn faulty_words(rt: HostRuntime) -> Result<(), Fail> {
         "more",
     ];
     expect_faulty(&rt, &long)
+}
+
+#[test]
+fn faulty_numbers_of_a_demo(rt: HostRuntime) -> Result<(), Fail> {
+    for (applicants, workers) in [
+        ("0", "1"),
+        ("500001", "1"),
+        ("5", "0"),
+        ("5", "65"),
+        ("", "1"),
+        ("5", "-1"),
+    ] {
+        expect_faulty(&rt, &["demo", applicants, workers])?;
+    }
+    expect_faulty(&rt, &["demo", "5"])?;
+    expect_faulty(&rt, &["demo", "5", "1", "pools"])
 }

@@ -62,8 +62,16 @@ fn expect_asked<R: Abort + AllocGlobal + Threads + Sync>(
     };
     let mut out = MemSink::new(rt.alloc(), 1000)?;
     let mut err = MemSink::new(rt.alloc(), 1000)?;
-    let status = run(rt, rt.alloc(), &words, &mut shelf, &mut out, &mut err);
-    assert_eq!(rt; status, if fails.is_empty() { 0 } else { 4 });
+    let ended = run(
+        rt,
+        rt.alloc(),
+        &words,
+        &mut shelf,
+        &mut out,
+        &mut err,
+        &OpenGate,
+    );
+    assert_eq!(rt; ended.status, if fails.is_empty() { 0 } else { 4 });
     assert!(rt; are_names(&shelf.asked, wanted));
     Ok(())
 }

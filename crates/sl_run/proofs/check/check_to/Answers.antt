@@ -1,4 +1,4 @@
-use Rattle.std.proofs.Common.{sym, ap, refl, Err}
+use Rattle.std.proofs.Common.{sym, ap, refl, Err, None}
 use Rattle.std.proofs.lemmas.Result.{err_from_is_err_and}
 use Rattle.sl_codes.specs.RecordText.{text_of_record}
 use Rattle.sl_doc.specs.VerdictText.{verdict_record}
@@ -20,7 +20,7 @@ returns-in-Ok-clause-carried_out g c = λ told. record {
   held = c.in_ok-named.ensures.held told;
   verdict = c.in_ok-named.verdict;
   text = text_of_record (verdict_record c.in_ok-named.named c.in_ok-named.verdict);
-  comes = (c.in_ok-named.ensures.judged told, refl);
+  comes = (c.in_ok-named.ensures.judged told, refl, refl);
   put = c.in-Ok.ensures.text;
   ends = ap quiet (sym c.verdict_status.ensures);
 }
@@ -33,15 +33,18 @@ returns-clause-left g c = rw c.from.ensures
     (write_leaves _ (PerformsPart (g.S.Shelf.files c.args.shelf.now) (check (tables_in c.args.tables) c.args.document.now) (g.O.Sink.output c.args.out.now) (g.O.Sink.output c.verdict_text.new.out))
     (g.O.Sink.output c.args.out.now) (g.O.Sink.output c.verdict_text.new.out) c.in-Err.error
     (λ fault. c.in-Err.ensures.cause (ap Err fault))
-    (λ told. record {
-      n = c.in_ok-named.named;
-      held = c.in_ok-named.ensures.held told;
-      verdict = c.in_ok-named.verdict;
-      text = text_of_record (verdict_record c.in_ok-named.named c.in_ok-named.verdict);
-      comes = (c.in_ok-named.ensures.judged told, refl);
-      put = c.in-Err.ensures.part;
-      ends = tt;
-    }))
+    (λ told. (
+      None,
+      record {
+        n = c.in_ok-named.named;
+        held = c.in_ok-named.ensures.held told;
+        verdict = c.in_ok-named.verdict;
+        text = text_of_record (verdict_record c.in_ok-named.named c.in_ok-named.verdict);
+        comes = (c.in_ok-named.ensures.judged told, refl, refl);
+        put = c.in-Err.ensures.part;
+        ends = tt;
+      },
+    )))
 
 pub returns-clause-cause : goal.returns-clause-cause
 returns-clause-cause g c = rw c.from.ensures

@@ -4,10 +4,32 @@ use Rattle.sl_run.proofs.Accepting.{nothing_read}
 use Rattle.sl_run.proofs.command.carry_out.Goals as goal
 
 pub returns-in-Ok-clause-done : goal.returns-in-Ok-clause-done
-returns-in-Ok-clause-done g c = rw c.in-Clear.is (nothing_read, Yes, refl)
+returns-in-Ok-clause-done g c = rw (c.in-Clear.is, c.with_receipt.ensures) (nothing_read, Yes, refl)
+
+pub returns-in-Ok-clause-floor : goal.returns-in-Ok-clause-floor
+returns-in-Ok-clause-floor g c = rw c.with_receipt.ensures c.in-Ok.ensures.floor
+
+pub returns-in-Err-clause-left : goal.returns-in-Err-clause-left
+returns-in-Err-clause-left g c = rw c.in-Clear.is c.in-Err.ensures.left
 
 pub returns-in-Err-clause-cause : goal.returns-in-Err-clause-cause
 returns-in-Err-clause-cause g c = rw c.in-Clear.is c.in-Err.ensures.cause
 
-pub returns-in-Check-clause-cause : goal.returns-in-Check-clause-cause
-returns-in-Check-clause-cause g c = rw c.in-Check.is c.check_to.ensures.cause
+pub returns-in-Err-check_to-clause-left : goal.returns-in-Err-check_to-clause-left
+returns-in-Err-check_to-clause-left g c = rw c.in-Check.is c.in-Err-check_to.ensures.left
+
+pub returns-in-Err-check_to-clause-cause : goal.returns-in-Err-check_to-clause-cause
+returns-in-Err-check_to-clause-cause g c = rw c.in-Check.is c.in-Err-check_to.ensures.cause
+
+pub returns-in-Ok-demo_to-clause-done : goal.returns-in-Ok-demo_to-clause-done
+returns-in-Ok-demo_to-clause-done g c = rw (c.in-Demo.is, c.with_receipt-in-Ok-demo_to.ensures) (nothing_read, Yes, refl)
+
+pub returns-in-Ok-demo_to-clause-floor : goal.returns-in-Ok-demo_to-clause-floor
+returns-in-Ok-demo_to-clause-floor g c = rw c.with_receipt-in-Ok-demo_to.ensures c.in-Ok-demo_to.ensures.floor
+
+pub returns-in-Err-demo_to-clause-left : goal.returns-in-Err-demo_to-clause-left
+returns-in-Err-demo_to-clause-left g c = rw c.in-Demo.is (c.in-Err-demo_to.ensures.left (g.S.Shelf.files c.args.shelf.now))
+
+pub returns-in-Err-demo_to-clause-cause : goal.returns-in-Err-demo_to-clause-cause
+returns-in-Err-demo_to-clause-cause g c =
+    rw c.in-Demo.is (c.in-Err-demo_to.ensures.cause (g.S.Shelf.files c.args.shelf.now) (g.S.Shelf.files c.args.shelf.now))

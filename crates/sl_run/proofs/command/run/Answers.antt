@@ -1,31 +1,39 @@
-use Rattle.std.proofs.Common.{◌≡◌, ◌∙◌, sym, inr}
+use Rattle.std.proofs.Common.{◌≡◌, ◌∙◌, sym, inl, inr}
 use Rattle.sl_io.specs.Sink.{Takes}
 use Rattle.sl_run.specs.Words.{texts_of}
 use Rattle.sl_run.specs.Ending.{IsQuiet}
 use Rattle.sl_run.specs.Run.{BreaksOff}
-use Rattle.sl_run.proofs.Ending.{none_refused, refuses, completes, completed, ended, quiet_end, words_decide}
+use Rattle.sl_run.proofs.Ending.{none_refused, refuses, completes, completed, ended, quiet_end, words_decide, demo_status, demo_fails}
 use Rattle.sl_run.proofs.Writing.{left_with_5, left_with_6, left_with_less}
 use Rattle.sl_run.proofs.command.run.Goals as goal
 
 pub returns-in-Ok-clause-carried_out : goal.returns-in-Ok-clause-carried_out
-returns-in-Ok-clause-carried_out g c = λ low told.
-    let (command, is, done) = c.in-Ok.ensures.carried_out told in
+returns-in-Ok-clause-carried_out g c = λ low.
+    let (command, is, done) = c.in-Ok.ensures.carried_out in
     let put = Takes (g.O.Sink.output c.args.out.now) (g.O.Sink.output c.perform.new.out) in
-    (command, is, quiet_end (g.S.Shelf.files c.args.shelf.now) command put c.in-Ok.status (g.E.Sink.output c.args.err.now) done)
+    let ended = c.in-Ok.ended in
+    (command, is, λ told. quiet_end (g.S.Shelf.files c.args.shelf.now) command put ended.status ended.receipt (g.E.Sink.output c.args.err.now) (done told))
 
 pub returns-in-Ok-clause-ended : goal.returns-in-Ok-clause-ended
 returns-in-Ok-clause-ended g c =
-    ended (texts_of c.args.words.now) (g.S.Shelf.files c.args.shelf.now) (g.S.Shelf.files c.perform.new.shelf) c.in-Ok.status (g.E.Sink.output c.args.err.now) c.in-Ok.ensures.done
+    ended (texts_of c.args.words.now) (g.S.Shelf.files c.args.shelf.now) (g.S.Shelf.files c.perform.new.shelf) c.in-Ok.ended.status (g.E.Sink.output c.args.err.now) c.in-Ok.ensures.done
 
 pub returns-in-Ok-clause-refused : goal.returns-in-Ok-clause-refused
 returns-in-Ok-clause-refused g c =
     none_refused (texts_of c.args.words.now) (g.S.Shelf.files c.args.shelf.now) (g.S.Shelf.files c.perform.new.shelf) (g.O.Sink.output c.args.out.now) (g.O.Sink.output c.perform.new.out)
-    (IsQuiet c.in-Ok.status) c.in-Ok.status c.in-Ok.ensures.carried_out
+    (IsQuiet c.in-Ok.ended.status) c.in-Ok.ended.receipt c.in-Ok.ended.status c.in-Ok.ensures.carried_out
 
 pub returns-in-Ok-clause-completed : goal.returns-in-Ok-clause-completed
 returns-in-Ok-clause-completed g c =
     completed (texts_of c.args.words.now) (g.S.Shelf.files c.args.shelf.now) (g.S.Shelf.files c.perform.new.shelf) (g.O.Sink.output c.args.out.now) (g.O.Sink.output c.perform.new.out)
-    c.in-Ok.status c.in-Ok.ensures.done
+    c.in-Ok.ended.status c.in-Ok.ensures.done
+
+pub returns-in-Ok-clause-demo : goal.returns-in-Ok-clause-demo
+returns-in-Ok-clause-demo g c = λ demo. inl (demo_status (texts_of c.args.words.now) c.in-Ok.ended.status c.in-Ok.ensures.done demo)
+
+pub returns-in-Err-clause-demo : goal.returns-in-Err-clause-demo
+returns-in-Err-clause-demo g c = rw c.status.ensures (λ demo. inr
+    (demo_fails (texts_of c.args.words.now) (g.S.Shelf.files c.args.shelf.now) (g.S.Shelf.files c.perform.new.shelf) c.in-Err.failure c.in-Err.ensures.cause demo))
 
 pub returns-in-Err-clause-ended : goal.returns-in-Err-clause-ended
 returns-in-Err-clause-ended g c = inr (c.in-Err.failure, c.in-Err.ensures.cause, (c.status.ensures, c.report.ensures))

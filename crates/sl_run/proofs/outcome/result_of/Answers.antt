@@ -16,4 +16,4 @@ returns-clause-in_range g c =
     let low = c.applicants-applicants.ensures.few in
     let here : length c.instance-instance.result.now.lists ≤ MAX_APPLICANTS = omega (arith, count, low) in
     let few = subst (λ (m : Market). length m.lists ≤ MAX_APPLICANTS) is here in
-    IfOk-weaker c.outcome_of.result _ _ (λ doc result. result_in_range c.args.named.now doc well few (subst (λ (m : Market). IsResultOf m doc) is result)) c.outcome_of.ensures
+    IfOk-weaker c.outcome_of.result _ _ (λ r result. result_in_range c.args.named.now r.0 well few (subst (λ (m : Market). IsResultOf m r.0) is result)) c.outcome_of.ensures.result
