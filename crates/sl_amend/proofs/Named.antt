@@ -1,11 +1,13 @@
 -- The choice that a row names, and its conflicts.
-use Rattle.std.proofs.Common.{◌≡◌, ◌≢◌, ◌∙◌, ◌<◌, ◌&&◌, not, ℕ, Bool, true, false, cond, nat_eq, nat_lt, List, [], ◌∷◌, length, get_or, Option, Some, None, sym, ap, arith, inl, inr, true≢false, eq-eqb}
+use Rattle.std.proofs.Common.{refl, ◌≡◌, ◌≢◌, ◌∙◌, ◌<◌, ◌&&◌, not, ℕ, Bool, true, false, cond, nat_eq, nat_lt, List, [], ◌∷◌, length, get_or, Option, Some, None, sym, ap, arith, inl, inr, true≢false, eq-eqb}
 use Rattle.std.specs.Prelude.{find, option_and_then}
 use Rattle.std.specs.List.{list_all, list_any, range_with_len}
-use Rattle.std.proofs.lemmas.Bool.{cases_Bool, and_parts, ltb-true, ltb-false}
+use Rattle.std.proofs.lemmas.Bool.{cases_Bool, and_parts, not-true, ltb-true, ltb-false}
 use Rattle.std.proofs.lemmas.List.{get_or_past}
-use Rattle.std.proofs.lemmas.List.Folds.{list_any_at}
+use Rattle.std.proofs.lemmas.List.Folds.{list_any_at, list_all-map}
+use Rattle.std.specs.declared.alloc.Global.{Global}
 use Rattle.std.proofs.lemmas.List.FromFn.{get_or-range_with_len, length-range_with_len}
+use Rattle.std.proofs.lemmas.List.Sums.{AllPass-from_list_all}
 use Rattle.sl_types.specs.declared.kinds.Entry.{Entry}
 use Rattle.sl_types.proofs.Alike.{nesting_alike}
 use Rattle.sl_types.proofs.Rings.{found}
@@ -15,8 +17,8 @@ use Rattle.sl_amend.specs.declared.register.Register.{Register}
 use Rattle.sl_amend.specs.Causes.{subject_field}
 use Rattle.sl_amend.specs.Conflicts.{is_tied_elsewhere, has_merit_of, is_contradicted_by, is_choice_where}
 use Rattle.sl_amend.specs.DraftMarket.{DraftMarket, applicant_number, own_choices}
-use Rattle.sl_amend.specs.Files.{choice_of_prog, choice_named, names_differing, names_tied}
-use Rattle.sl_amend.specs.Merits.{is_contradicted, is_held_beyond}
+use Rattle.sl_amend.specs.Files.{choice_of_prog, choice_named, names_differing, names_tied, NamesNone}
+use Rattle.sl_amend.specs.Merits.{is_contradicted, is_held_beyond, is_in_none}
 use Rattle.sl_amend.specs.Register.{draft_of, IsRegister}
 use Rattle.sl_amend.specs.Roll.{is_choice, lists_of, programmes}
 use Rattle.sl_amend.proofs.Beyond.{IsTallied, beyond_none, beyond_some}
@@ -122,3 +124,36 @@ ties_named register h row a e named number =
     elsewhere_is register h a e fine
     ∙ sym (ap (λ (n : ℕ). is_tied_elsewhere market n e) number)
     ∙ sym (ap (λ (o : Option Entry). is_choice_where (is_tied_elsewhere market (applicant_number draft (subject_field row))) o) named)
+
+module _ (register : Register) (h : IsRegister register) (row : Record) where
+  abbrev subject_number : ℕ
+  subject_number = applicant_number (draft_of register) (subject_field row)
+
+  abbrev subject_choices : List Entry
+  subject_choices = get_or (lists_of register.roll) subject_number []
+
+  -- where no choice of an applicant is in a conflict, a row names none of theirs that is
+  none_named : (o : Option Entry) → choice_named (draft_of register) row ≡ o → is_in_none register.roll.merits subject_choices ≡ true
+      → (names_differing (draft_of register) row ≡ false) × (names_tied (draft_of register) row ≡ false)
+  none_named None named free = (
+    ap (λ (o : Option Entry). is_choice_where (is_contradicted_by (draft_of register).named.market (own_choices (draft_of register) (subject_field row))) o) named,
+    ap (λ (o : Option Entry). is_choice_where (is_tied_elsewhere (draft_of register).named.market subject_number) o) named,
+  )
+  none_named (Some e) named free =
+      let differs = is_contradicted register.roll.merits.trees.items subject_choices in
+      let ties = is_held_beyond register.roll.merits subject_choices in
+      let test : Entry → Bool = λ e. not (differs e) && not (ties e) in
+      let parts = and_parts (not (differs e)) (not (ties e)) (named_fine test (draft_of register) row e named free) in (
+        sym (differs_named register h row subject_number e named refl) ∙ not-true (differs e) parts.0,
+        sym (ties_named register h row subject_number e named refl) ∙ not-true (ties e) parts.1,
+      )
+
+-- where no choice is in a conflict, no row names one that is
+pub names_none : (register : Register) → IsRegister register → list_all (is_in_none register.roll.merits) (lists_of register.roll) ≡ true → NamesNone (draft_of register)
+names_none register h free row =
+    let a = subject_number register h row in
+    none_named register h row (choice_named (draft_of register) row) refl
+    (elim (cases_Bool (nat_lt a (length (lists_of register.roll)))) [
+      | inl e ↦ AllPass-from_list_all (is_in_none register.roll.merits) (lists_of register.roll) free a [] (ltb-true a (length (lists_of register.roll)) e)
+      | inr e ↦ ap (is_in_none register.roll.merits) (get_or_past (lists_of register.roll) a [] (ltb-false a (length (lists_of register.roll)) e))
+    ])

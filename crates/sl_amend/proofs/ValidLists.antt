@@ -24,7 +24,7 @@ use Rattle.sl_amend.proofs.OneChange.{any_never}
 use Rattle.sl_amend.proofs.Fine.{fine_whole}
 
 -- an element is none of those before it, where no two are the same
-fresh : (codes : List (List ℕ)) (k : ℕ) → IsDistinct bytes_eq codes → k < length codes → has_code (take k codes) (get_or codes k []) ≡ false
+pub fresh : (codes : List (List ℕ)) (k : ℕ) → IsDistinct bytes_eq codes → k < length codes → has_code (take k codes) (get_or codes k []) ≡ false
 unfolding IsDistinct
 fresh [] k h lt = absurd (omega (arith, lt))
 fresh (x ∷ xs) zero h lt = refl
@@ -110,6 +110,11 @@ valid_nested market valid =
     let s = neither (size_fault market) _ valid in
     let q = neither (quota_fault market) _ s.1 in
     nesting_alike market.pools market.progs market.lists ∙ (neither (nesting_fault market) _ q.1).0
+
+pub valid_quotas : (market : Market) → IsValid market → quota_fault market ≡ None
+valid_quotas market valid =
+    let s = neither (size_fault market) _ valid in
+    (neither (quota_fault market) _ s.1).0
 
 if_none : (broken : Bool) (fault : Unfit) → cond broken (Some fault) None ≡ None → broken ≡ false
 if_none true fault h = let e : None ≡ Some fault = sym h in cc e

@@ -1,5 +1,5 @@
 -- The amendment file: its form, and the passes over the whole file.
-use Rattle.std.specs.Prelude.{ℕ, ◌==◌, Bool, true, false, List, ◌∷◌, [], codes, drop, find, map, position, option_and_then, if◌then◌else◌, Option, Some, None}
+use Rattle.std.specs.Prelude.{◌≡◌, ℕ, ◌==◌, Bool, true, false, List, ◌∷◌, [], codes, drop, find, map, position, option_and_then, if◌then◌else◌, Option, Some, None}
 use Rattle.std.specs.Option.{option_or}
 use Rattle.sl_types.specs.declared.kinds.Entry.{Entry}
 use Rattle.sl_codes.specs.declared.faults.Cause.TheVariants.{MeritDiffers, MeritTied}
@@ -77,6 +77,10 @@ names_tied draft row =
     let a = applicant_number draft (subject_field row) in
     is_choice_where (is_tied_elsewhere draft.named.market a) (choice_named draft row)
 
+-- no row names a choice in a conflict
+abbrev pub NamesNone : DraftMarket → Type 0
+NamesNone draft = (row : Record) → (names_differing draft row ≡ false) × (names_tied draft row ≡ false)
+
 -- the fault of the passes over the whole file, where these rows lead to a draft
 abbrev pub passes_fault : DraftMarket → List Record → Option TableFault
 passes_fault draft rows =
@@ -88,6 +92,15 @@ abbrev pub amendments_fault : NamedMarket → List Record → Option TableFault
 amendments_fault named records =
     let rows = drop 1 records in
     option_or (first_fault (amendment_form named) records) (passes_fault (draft_after (opening named) rows) rows)
+
+-- these are the records of a file without a fault, and its rows lead from an instance to a draft
+pub record AreAccepted (named : NamedMarket) (records : List Record) (draft : DraftMarket) : Type 0 where
+  pub right : amendments_fault named records ≡ None
+  pub leads : draft ≡ draft_after (opening named) (drop 1 records)
+
+-- the rows of some file without a fault lead from an instance to a draft
+abbrev pub IsLedTo : NamedMarket → DraftMarket → Type 0
+IsLedTo named draft = (records : List Record) × AreAccepted named records draft
 
 -- the accepted rows of a file, and the instance that it amends
 pub record AmendmentList : Type 0 where

@@ -18,3 +18,6 @@ pub mod Cone
 pub mod Laws
 pub mod Flags
 pub mod Touched
+pub mod Origins
+pub mod Tables
+pub mod TableLaws

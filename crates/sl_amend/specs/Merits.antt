@@ -1,7 +1,7 @@
 -- How many choices hold each merit of each tree; a tree and a merit in it are known by one number.
 use Rattle.std.specs.Prelude.{◌≡◌, ℕ, ◌&&◌, ◌==◌, not, Bool, List, sum_by, count_by, nat_lt, unwrap_or, if◌then◌else◌, Option}
 use Rattle.std.specs.Option.{option_or}
-use Rattle.std.specs.List.{list_any}
+use Rattle.std.specs.List.{list_all, list_any}
 use Rattle.std.specs.HashMap.{get, HashMap}
 use Rattle.std.specs.declared.hash.FoldHasher.{FoldHasher}
 use Rattle.std.specs.declared.hash.BuildHasherDefault.{BuildHasherDefault}
@@ -63,6 +63,11 @@ is_contradicted trees choices e = list_any (λ f. in_one_tree trees e f && not (
 abbrev pub is_held_beyond : Merits → List Entry → Entry → Bool
 is_held_beyond merits choices e =
     passes (λ key. nat_lt (count_in merits.trees.items key choices) (held_at merits key)) (merit_key merits.trees.items e)
+
+-- no choice of these, which are those of one applicant, is in a conflict
+abbrev pub is_in_none : Merits → List Entry → Bool
+is_in_none merits choices =
+    list_all (λ e. not (is_contradicted merits.trees.items choices e) && not (is_held_beyond merits choices e)) choices
 
 -- one of these choices, of another programme, is in the tree of a choice and has another score
 abbrev pub is_contradicted_beside : List (Option ℕ) → List Entry → Entry → Bool

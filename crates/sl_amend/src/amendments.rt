@@ -4,7 +4,7 @@ ghost use Rattle.sl_codes.specs.Faults.{first_fault, IsFirst, IsWrong};
 ghost use Rattle.sl_codes.specs.Records.{records_of, rows_of};
 ghost use Rattle.sl_amend.specs.Applied.{applied, draft_after};
 ghost use Rattle.sl_amend.specs.DraftMarket.{opening};
-ghost use Rattle.sl_amend.specs.Files.{amendment_form, amendments_fault};
+ghost use Rattle.sl_amend.specs.Files.{amendment_form, amendments_fault, IsLedTo};
 ghost use Rattle.sl_amend.specs.Frame.{row_cause};
 ghost use Rattle.sl_amend.specs.declared.rows.TheConstants.{MAX_AMENDMENTS};
 
@@ -29,18 +29,24 @@ pub struct Amendments {
 }
 
 impl Model for Amendments {
-    ghost use Rattle.std.specs.Prelude.{◌≡◌};
-    ghost use Rattle.sl_codes.specs.Records.{rows_of};
-    ghost use Rattle.sl_amend.specs.Applied.{draft_after};
-    ghost use Rattle.sl_amend.specs.DraftMarket.{opening};
-    ghost use Rattle.sl_amend.specs.Files.{AmendmentList};
+    ghost use Rattle.sl_codes.specs.Records.{records_of, rows_of};
+    ghost use Rattle.sl_amend.specs.Files.{AmendmentList, AreAccepted};
 
     ghost Value = { AmendmentList };
 
     ghost view = { λ s. record { rows = rows_of s.bytes.value.items; named = s.named.value } };
 
-    ghost invariant = { λ s. let rows = rows_of s.bytes.value.items in
-        s.draft ≡ draft_after (opening s.named.value) rows };
+    ghost invariant = { λ s. AreAccepted s.named.value (records_of s.bytes.value.items) s.draft };
+}
+
+impl Amendments {
+    // The instance as the rows leave it.
+    pub(crate) fn draft(&self) -> &Draft
+        ensures draft { result.now ≡ draft_after (opening self.now.named) self.now.rows }
+        ensures led { IsLedTo self.now.named result.now }
+    {
+        &self.draft
+    }
 }
 
 // Applies one more record, after so many.

@@ -1,8 +1,10 @@
-ghost use Rattle.std.specs.Prelude.{◌≡◌, None, IfOk, OnErr};
+ghost use Rattle.std.specs.Prelude.{◌≡◌, true, None, length, IfOk, OnErr};
+ghost use Rattle.sl_amend.specs.Amended.{IsAmended, AreOrigins};
 ghost use Rattle.sl_amend.specs.Causes.{cause_of_row};
 ghost use Rattle.sl_amend.specs.Conflicts.{cause_alone, conflict_cause};
-ghost use Rattle.sl_amend.specs.DraftMarket.{opening, applicant_count, application_count};
-ghost use Rattle.sl_amend.specs.Files.{names_differing, names_tied};
+ghost use Rattle.sl_amend.specs.DraftMarket.{opening, amended, applicant_count, application_count};
+ghost use Rattle.sl_amend.specs.Files.{names_differing, names_tied, IsLedTo, NamesNone};
+ghost use Rattle.sl_amend.specs.Origins.{origins_in};
 ghost use Rattle.sl_amend.specs.Parts.{record_of};
 ghost use Rattle.sl_amend.specs.Register.{draft_of, IsRegister};
 ghost use Rattle.sl_amend.specs.Stepping.{Steps};
@@ -13,7 +15,7 @@ use crate::parts::Parts;
 use crate::register::Register;
 use sl_codes::Cause;
 use sl_instance::Named;
-use sl_types::OutOfMemory;
+use sl_types::{AppId, OutOfMemory};
 use std::alloc::Global;
 use std::marker::Model;
 
@@ -100,12 +102,43 @@ impl Draft {
         self.register.take(row)
     }
 
+    // Whether no choice is in a conflict. Then no row names one that is.
+    pub(crate) fn has_no_conflict(&self) -> bool
+        ensures { result ≡ true → NamesNone self.now }
+    {
+        self.register.has_no_conflict()
+    }
+
     // In what conflicts the choice is that a row names, where it stands.
     pub(crate) fn conflict_named(&self, row: Parts) -> Conflict
         ensures differs { result.differs ≡ names_differing self.now (record_of row.entry) }
         ensures ties { result.ties ≡ names_tied self.now (record_of row.entry) }
     {
         self.register.conflict_named(row)
+    }
+
+    // The amended instance, where the rows of a file without a fault led here from an instance.
+    pub(crate) fn amended(&self, alloc: Global, named: &Named) -> Result<Named, OutOfMemory>
+        requires { IsLedTo named.now self.now }
+        ensures amended { IfOk result (λ n. n ≡ amended self.now) }
+        ensures same { IfOk result (λ n. IsAmended named.now.market n.market) }
+    {
+        self.register.amended(alloc, named)
+    }
+
+    // Which of the old applicants those of the amended instance are.
+    pub(crate) fn origins(
+        &self,
+        alloc: Global,
+        named: &Named,
+    ) -> Result<Vec<Option<AppId>>, OutOfMemory>
+        requires { IsLedTo named.now self.now }
+        ensures origins { IfOk result (λ v. v.items ≡ origins_in self.now) }
+        ensures each { let applicants = (amended self.now).market.lists in
+            IfOk result (λ v. length v.items ≡ length applicants) }
+        ensures known { IfOk result (λ v. AreOrigins named.now.market v.items) }
+    {
+        self.register.origins(alloc, named)
     }
 
     /// How many applicants are present. It takes no memory.

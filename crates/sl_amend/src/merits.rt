@@ -1,7 +1,7 @@
 ghost use Rattle.std.specs.Prelude.{◌≡◌, ℕ, ◌+◌, ◌-◌, ◌*◌, ◌<◌, ◌^◌, ◌&&◌, ◌==◌, not, length, OnOk, OnErr};
 ghost use Rattle.sl_types.specs.declared.kinds.TheConstants.{MAX_SCORE};
 ghost use Rattle.sl_types.specs.Trees.{tree_at, merit_key};
-ghost use Rattle.sl_amend.specs.Merits.{held_in, ChangesOnly, held_at, has_key, count_at, count_in, Holds, SameTrees, in_one_tree, is_contradicted, is_contradicted_beside, is_held_beyond, conflict_found};
+ghost use Rattle.sl_amend.specs.Merits.{held_in, ChangesOnly, held_at, has_key, count_at, count_in, Holds, SameTrees, in_one_tree, is_contradicted, is_contradicted_beside, is_held_beyond, is_in_none, conflict_found};
 
 use sl_codes::Cause;
 use sl_types::{Entry, MAX_SCORE};
@@ -177,6 +177,15 @@ impl Merits {
             Some(key) => count_in(&self.trees, key, choices) < held_at(&self.held, key) as usize,
             None => false,
         }
+    }
+
+    /// Whether no choice of these, which are those of one applicant, is in a conflict.
+    pub fn is_in_none(&self, choices: &[Entry]) -> bool
+        ensures { result ≡ is_in_none self.now choices.now }
+    {
+        choices.iter().all(|choice| {
+            !is_contradicted(&self.trees, choices, choice) && !self.is_held_beyond(choices, choice)
+        })
     }
 
     /// In what conflict a choice would be, beside those of its applicant of other programmes, and

@@ -17,8 +17,8 @@ use sl_types::{AppId, Instance, OutOfMemory, Pool, PoolId, ProgId, trees};
 use std::alloc::{AllocError, Global};
 use std::collections::HashMap;
 
-// The same codes.
-fn copy_codes(alloc: Global, codes: &Codes) -> Result<Codes, OutOfMemory>
+/// The same codes.
+pub fn copy_codes(alloc: Global, codes: &Codes) -> Result<Codes, OutOfMemory>
     ensures { IfOk result (λ copy. copy ≡ codes.now) }
 {
     let mut copy = Codes::new(alloc);

@@ -36,13 +36,8 @@ fn first_tie(known: Option<usize>, ties: bool, at: usize) -> Option<usize>
     }
 }
 
-/// The fault of the passes over the whole file, where its rows led to a draft. The file is read
-/// once more, so that no row is kept.
-pub fn passes_fault(
-    alloc: Global,
-    bytes: &[u8],
-    draft: &Draft,
-) -> Result<Option<TableFault>, OutOfMemory>
+// The fault of the passes over the whole file. It is read once more, so that no row is kept.
+fn fault_read(alloc: Global, bytes: &[u8], draft: &Draft) -> Result<Option<TableFault>, OutOfMemory>
     requires { length (rows_of bytes.now) ≤ MAX_AMENDMENTS }
     ensures { IfOk result (λ fault. fault ≡ passes_fault draft.now (rows_of bytes.now)) }
 {
@@ -65,4 +60,20 @@ pub fn passes_fault(
         Some(at) => Ok(Some(pass_fault(Cause::MeritTied, at))),
         None => Ok(None),
     }
+}
+
+/// The fault of the passes over the whole file, where its rows led to a draft. The file is read
+/// again only where some choice is in a conflict.
+pub fn passes_fault(
+    alloc: Global,
+    bytes: &[u8],
+    draft: &Draft,
+) -> Result<Option<TableFault>, OutOfMemory>
+    requires { length (rows_of bytes.now) ≤ MAX_AMENDMENTS }
+    ensures { IfOk result (λ fault. fault ≡ passes_fault draft.now (rows_of bytes.now)) }
+{
+    if draft.has_no_conflict() {
+        return Ok(None);
+    }
+    fault_read(alloc, bytes, draft)
 }

@@ -8,7 +8,9 @@ use std::alloc::{AllocError, Global};
 use std::process::Abort;
 use std::test::Fail;
 
+mod amended;
 mod drafts;
+mod table_texts;
 
 const HEADER: &str = "kind,subject,place,programme,number\n";
 

@@ -12,7 +12,7 @@ mod theorems;
 
 pub use codes::Codes;
 pub use faults::{Cause, ReadError, RowError, Table, TableFault};
-pub use field_text::Field;
+pub use field_text::{Field, push_record};
 pub use fields::{MAX_CODE, add_code, code, number, number_within};
 pub use printer::{Printer, put_record};
 pub use records::{Records, field, has_fields, read_header};

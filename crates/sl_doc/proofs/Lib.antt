@@ -13,4 +13,5 @@ mod Recorded
 mod Records
 mod Right
 mod Sections
+mod SeenLines
 mod Windows

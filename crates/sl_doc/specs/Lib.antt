@@ -3,4 +3,5 @@ pub mod Drafts
 pub mod Laws
 pub mod Reading
 pub mod ResultText
+pub mod SeenText
 pub mod VerdictText

@@ -1,6 +1,6 @@
 ghost use Rattle.std.specs.Prelude.{◌≡◌, OnOk, OnErr, IsErrOf};
 ghost use Rattle.sl_io.specs.Sink.{Takes, TakesPart, RoseIn, KeepsCount};
-ghost use Rattle.sl_codes.specs.RecordText.{text_of_record, bytes_of_field};
+ghost use Rattle.sl_codes.specs.RecordText.{text_of_record, bytes_of_field, record_of};
 ghost use Rattle.sl_doc.specs.VerdictText.{NamesWithin, naming_record, verdict_record};
 
 use crate::texts::{app_code, pool_code};
@@ -26,6 +26,21 @@ fn naming<'a>(named: &'a Named, verdict: &Verdict) -> (&'static str, Field<'a>)
     }
 }
 
+/// The four fields of a verdict's record, with the code of the pool or of the applicant that it names. It takes
+/// no memory.
+pub fn verdict_fields<'a>(named: &'a Named, verdict: &Verdict) -> [Field<'a>; 4]
+    requires { NamesWithin named.now verdict.now }
+    ensures { record_of result ≡ verdict_record named.now verdict.now }
+{
+    let (name, value) = naming(named, verdict);
+    [
+        Field::Text("verdict"),
+        Field::Text(name),
+        value,
+        Field::Text(""),
+    ]
+}
+
 /// Writes the record of a verdict, with the code of the pool or of the applicant that it names. After an
 /// error the sink took the first bytes of the record. `Fault` comes only where its count of faults rose.
 pub fn verdict_text<O: Sink>(
@@ -42,12 +57,5 @@ pub fn verdict_text<O: Sink>(
     ensures cause { IsErrOf result WriteError.Fault → RoseIn (O.output out.old) (O.output out.new) }
     ensures later { KeepsCount (O.output out.old) (O.output out.new) }
 {
-    let (name, value) = naming(named, verdict);
-    let fields = [
-        Field::Text("verdict"),
-        Field::Text(name),
-        value,
-        Field::Text(""),
-    ];
-    put_record(alloc, &fields, out)
+    put_record(alloc, &verdict_fields(named, verdict), out)
 }

@@ -1,5 +1,5 @@
 ghost use Rattle.std.specs.Prelude.{◌≡◌, ◌+◌, ◌<◌, ◌≤◌, [], length, IfOk};
-ghost use Rattle.sl_types.specs.declared.kinds.TheConstants.{MAX_SCORE};
+ghost use Rattle.sl_types.specs.declared.kinds.TheConstants.{MAX_SCORE, MAX_POOLS};
 ghost use Rattle.sl_types.specs.Market.{Market};
 ghost use Rattle.sl_laws.specs.Limits.{Limits};
 ghost use Rattle.sl_laws.specs.Stable.{IsStable};
@@ -95,6 +95,14 @@ impl Floor {
             limit: 0,
         };
         Ok((floor, seat))
+    }
+
+    /// For how many pools the floor is: 20,000 at most.
+    pub fn pools(&self) -> usize
+        ensures pools { result ≡ length self.now.market.pools }
+        ensures few { result ≤ MAX_POOLS }
+    {
+        self.pools
     }
 
     /// Claims a pool that is left to scan: one swap of its flag to 0. The answer is whether this swap found the

@@ -11,7 +11,7 @@ use Rattle.sl_codes.specs.declared.faults.TableFault.{TableFault}
 use Rattle.sl_instance.specs.NamedMarket.{NamedMarket}
 use Rattle.sl_run.specs.declared.failure.Failure.{Failure}
 use Rattle.sl_run.specs.declared.failure.Failure.TheVariants.{Words, Refused, TooLong, Unreadable, Unwritable, OutOfMemory}
-use Rattle.sl_run.specs.Words.{TableNames, Command, clear, check, demo, File, file_of, command_of, inputs_of, letter_rule, tables_and, StandsAt, AreWordsOf, IsCheck, IsDemo, is_clearing, AreNoCommand}
+use Rattle.sl_run.specs.Words.{TableNames, Command, clear, check, watch, demo, File, file_of, command_of, inputs_of, letter_rule, tables_and, StandsAt, AreWordsOf, IsCheck, IsDemo, is_clearing, AreNoCommand}
 use Rattle.sl_run.specs.Accepted.{IsTold, IsToldTo, HoldsFor, Hold, AreAccepted, IsRefused, IsTooLong, IsStop, fault_in}
 use Rattle.sl_run.specs.Causes.{RoseOf, RoseUpTo, IsCause, IsCauseOf, Refuses, Completes}
 use Rattle.sl_run.specs.Ending.{Ending, ending_of, status_of_verdict, EndsWith, IsQuiet}
@@ -61,18 +61,21 @@ no_stop : (shelf : Files) (command : Command) (n : NamedMarket) (k : ℕ) (file 
     → IsStop shelf (inputs_of command).rule (take k (inputs_of command).files) file → ⊥
 no_stop shelf (clear w t) n k file at before here stop = not_stop shelf t [] n k file at before here stop
 no_stop shelf (check t document) n k file at before here stop = not_stop shelf t (file_of Results document ∷ []) n k file at before here stop
+no_stop shelf (watch looks w t) n k file at before here stop = not_stop shelf t [] n k file at before here stop
 no_stop shelf (demo a w) n k file at before here stop = cc at
 
 -- where the files are told, they are to each command
 told_to : (shelf : Files) (command : Command) → IsTold shelf → IsToldTo shelf command
 told_to shelf (clear w t) told = told
 told_to shelf (check t document) told = told
+told_to shelf (watch looks w t) told = told
 told_to shelf (demo a w) told = tt
 
 -- where they are told to a command that has a file, they are told
 told_with : (shelf : Files) (command : Command) (k : ℕ) (file : File) → StandsAt (inputs_of command) k file → IsToldTo shelf command → IsTold shelf
 told_with shelf (clear w t) k file at told = told
 told_with shelf (check t document) k file at told = told
+told_with shelf (watch looks w t) k file at told = told
 told_with shelf (demo a w) k file at told = cc at
 
 -- where all files of a command are accepted, none is the first that isn't
@@ -170,6 +173,7 @@ low_status words status (check t document, is, (n, verdict, ends)) = elim (zero_
   | inl zero ↦ inl (sym (ap (λ (x : Ending). x.status) ends) ∙ zero)
   | inr one ↦ inr (sym (ap (λ (x : Ending). x.status) ends) ∙ one, (t, document, is))
 ]
+low_status words status (watch looks w t, is, (n, verdict, ends)) = inl (sym (ap (λ (x : Ending). x.status) ends))
 low_status words status (demo a w, is, (n, verdict, ends)) = inl (sym (ap (λ (x : Ending). x.status) ends))
 
 -- a demo has no file that could be the cause of a failure

@@ -11,7 +11,7 @@ use Rattle.sl_choices.specs.Choices.{choices_of}
 use Rattle.sl_choices.proofs.Whole.{kept_whole}
 use Rattle.sl_instance.specs.NamedMarket.{NamedMarket}
 use Rattle.sl_instance.proofs.Existence.{assembled_of}
-use Rattle.sl_run.specs.Words.{TableNames, Command, clear, check, demo, File, file_of, inputs_of, letter_rule, tables_and}
+use Rattle.sl_run.specs.Words.{TableNames, Command, clear, check, watch, demo, File, file_of, inputs_of, letter_rule, tables_and}
 use Rattle.sl_codes.proofs.FirstFault.{neither}
 use Rattle.sl_run.specs.Accepted.{HoldsFor, Hold, AreAccepted, AreHeld, choice_fault}
 use Rattle.sl_run.specs.Causes.{AreFaultless}
@@ -49,6 +49,7 @@ accepted_of shelf (check t document) f =
     let (n, held) = tables_held shelf t (file_of Results document ∷ []) f in
     let (text, told, few, right) = f (suc (suc (suc zero))) (file_of Results document) refl n held in
     (n, one_more shelf (letter_rule t.letter) t n (file_of Results document) held (text, told, few, (right, tt)))
+accepted_of shelf (watch looks w t) f = tables_held shelf t [] f
 accepted_of shelf (demo k w) f = (nothing_read, All-nil (HoldsFor shelf Rule.H nothing_read))
 
 pub tables_have_instance : TablesHaveInstance

@@ -7,3 +7,4 @@ pub mod Lines
 pub mod Writing
 pub mod Admitted
 pub mod Once
+pub mod Looked

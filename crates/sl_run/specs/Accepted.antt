@@ -16,7 +16,7 @@ use Rattle.sl_instance.specs.NamedMarket.{NamedMarket}
 use Rattle.sl_instance.specs.Assembly.{IsAssembled}
 use Rattle.sl_instance.specs.Causes.{merits_fault}
 use Rattle.sl_doc.specs.Reading.{doc_fault}
-use Rattle.sl_run.specs.Words.{Command, clear, check, demo, File, Inputs}
+use Rattle.sl_run.specs.Words.{Command, clear, check, watch, demo, File, Inputs}
 
 -- a shelf tells what its files hold
 abbrev pub IsTold : Files → Type 0
@@ -26,6 +26,7 @@ IsTold shelf = shelf.tells ≡ true
 abbrev pub IsToldTo : Files → Command → Type 0
 IsToldTo shelf (clear workers tables) = IsTold shelf
 IsToldTo shelf (check tables document) = IsTold shelf
+IsToldTo shelf (watch looks workers tables) = IsTold shelf
 IsToldTo shelf (demo applicants workers) = ⊤
 
 -- a file is told, is no longer than a file may be, and its text passes

@@ -6,7 +6,7 @@ use Rattle.sl_instance.specs.NamedMarket.{NamedMarket}
 use Rattle.sl_io.specs.Sink.{Output, Takes, TakesPart, RoseIn}
 use Rattle.sl_run.specs.declared.failure.Failure.{Failure}
 use Rattle.sl_run.specs.Failures.{status_of, line_of}
-use Rattle.sl_run.specs.Words.{Command, clear, check, demo}
+use Rattle.sl_run.specs.Words.{Command, clear, check, watch, demo}
 
 -- a status, and a line for people, if there is one
 pub record Ending : Type 0 where
@@ -29,6 +29,7 @@ IsQuiet status ending = ending ≡ quiet status
 abbrev pub ending_of : Command → NamedMarket → Verdict → Ending
 ending_of (clear workers tables) n verdict = quiet 0
 ending_of (check tables document) n verdict = quiet (status_of_verdict verdict)
+ending_of (watch looks workers tables) n verdict = quiet 0
 ending_of (demo applicants workers) n verdict = quiet 0
 
 -- how a command ends that failed

@@ -6,5 +6,6 @@ pub mod Fetching
 pub mod Ending
 pub mod Result
 pub mod Receipt
+pub mod Looks
 pub mod Summary
 pub mod Run

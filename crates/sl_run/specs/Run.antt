@@ -1,5 +1,5 @@
 -- What a command does, from the files that it names to the text that it writes.
-use Rattle.std.specs.Prelude.{◌≡◌, ◌⊎◌, ⊤, ℕ, Bool, true, false, List, [], Option, None, IsSomeAnd}
+use Rattle.std.specs.Prelude.{◌≡◌, ◌⊎◌, ◌++◌, ⊤, ℕ, All, length, Bool, true, false, List, [], Option, None, IsSomeAnd}
 use Rattle.sl_io.specs.Shelf.{Files}
 use Rattle.sl_io.specs.Sink.{Output, Takes, TakesPart, RoseIn}
 use Rattle.sl_check.specs.declared.verdict.Verdict.{Verdict}
@@ -13,13 +13,15 @@ use Rattle.sl_codes.specs.RecordText.{text_of_record}
 use Rattle.sl_doc.specs.Document.{Document}
 use Rattle.sl_doc.specs.ResultText.{result_text}
 use Rattle.sl_doc.specs.VerdictText.{verdict_record}
+use Rattle.sl_team.specs.Clearing.{AreRising, IsAtMost}
 use Rattle.sl_run.specs.declared.failure.Failure.{Failure}
 use Rattle.sl_run.specs.declared.failure.Failure.TheVariants.{Words, Unwritable, OutOfMemory}
 use Rattle.sl_run.specs.declared.ended.Ended.{Ended}
 use Rattle.sl_run.specs.Receipt.{IsClearedOn}
 use Rattle.sl_run.specs.Result.{IsResultOf}
+use Rattle.sl_run.specs.Looks.{looks_text}
 use Rattle.sl_run.specs.Summary.{summary_text}
-use Rattle.sl_run.specs.Words.{TableNames, Command, clear, check, demo, inputs_of, letter_rule, tables_and, AreWordsOf}
+use Rattle.sl_run.specs.Words.{TableNames, Command, clear, check, watch, demo, inputs_of, letter_rule, tables_and, AreWordsOf}
 use Rattle.sl_run.specs.Accepted.{IsToldTo, Holds, Hold, AreAccepted, AreHeld}
 use Rattle.sl_run.specs.Fetching.{GivesDocument}
 use Rattle.sl_run.specs.Causes.{IsCauseOf, AreFaultless}
@@ -46,6 +48,12 @@ pub record IsGenerated (applicants : ℕ) (n : NamedMarket) (doc : Document) : T
   pub market : n.market ≡ generated applicants
   pub result : IsResultOf n.market doc
 
+-- what so many looks saw: each no less than the one before, and at most the published limits, pool by pool
+pub record AreLooks (looks : ℕ) (limits : List ℕ) (seen : List (List ℕ)) : Type 0 where
+  pub count : length seen ≡ looks
+  pub rising : AreRising seen
+  pub low : All (IsAtMost limits) seen
+
 -- what a command comes to over its instance, which is that of its tables or a generated one: its verdict, the
 -- receipt that it answers, and the text that it writes
 abbrev pub ComesTo : Files → Command → NamedMarket → Verdict → Option Closing → List ℕ → Type 0
@@ -55,6 +63,10 @@ ComesTo shelf (clear workers tables) n verdict receipt text =
 ComesTo shelf (check tables document) n verdict receipt text =
     IsJudged shelf (letter_rule tables.letter) document n verdict
     × (receipt ≡ None) × (text ≡ text_of_record (verdict_record n verdict))
+ComesTo shelf (watch looks workers tables) n verdict receipt text =
+    (doc : Document) × (seen : List (List ℕ)) × IsCleared n doc × AreLooks looks doc.limits seen
+    × IsSomeAnd receipt (IsClearedOn n.market doc)
+    × (text ≡ looks_text n seen ++ result_text n (letter_rule tables.letter) doc)
 ComesTo shelf (demo applicants workers) n verdict receipt text =
     (doc : Document) × IsGenerated applicants n doc × IsSomeAnd receipt (IsClearedOn n.market doc)
     × (text ≡ summary_text n.market doc.limits)

@@ -8,7 +8,7 @@ use Rattle.sl_types.specs.declared.kinds.Rule.TheVariants as rule
 use Rattle.sl_codes.specs.declared.faults.Table.{Table}
 use Rattle.sl_codes.specs.declared.faults.Table.TheVariants.{Pools, Programmes, Applications, Results}
 use Rattle.sl_codes.specs.Fields.{number_within}
-use Rattle.sl_run.specs.declared.words.TheConstants.{MAX_WORKERS}
+use Rattle.sl_run.specs.declared.words.TheConstants.{MAX_WORKERS, MAX_LOOKS}
 use Rattle.sl_run.specs.declared.words.Letter.{Letter}
 use Rattle.sl_run.specs.declared.words.Letter.TheVariants.{H, L}
 use Rattle.sl_run.specs.declared.words.Tables as spoken_tables
@@ -33,6 +33,7 @@ names_of l p g a = record { letter = l; pools = p; programmes = g; applications 
 pub data Command : Type 0 where
   clear : (workers : ℕ) (tables : TableNames) → Command
   check : (tables : TableNames) (document : List ℕ) → Command
+  watch : (looks workers : ℕ) (tables : TableNames) → Command
   demo : (applicants workers : ℕ) → Command
 
 -- the rule that a letter gives to pools of kind `score`
@@ -46,9 +47,12 @@ letter_of word =
     if bytes_eq word (codes "H") then Some H
     else (if bytes_eq word (codes "L") then Some L else None)
 
--- the numbers of workers and of applicants that words of 1 to 9 digits are
+-- the numbers of workers, of looks and of applicants that words of 1 to 9 digits are
 abbrev pub workers_of : List ℕ → Option ℕ
 workers_of word = number_within 1 MAX_WORKERS word
+
+abbrev pub looks_of : List ℕ → Option ℕ
+looks_of word = number_within 1 MAX_LOOKS word
 
 abbrev pub applicants_of : List ℕ → Option ℕ
 applicants_of word = number_within 1 MAX_APPLICANTS word
@@ -65,6 +69,14 @@ check_of (letter ∷ p ∷ g ∷ a ∷ document ∷ []) =
     option_map (λ l. check (names_of l p g a) document) (letter_of letter)
 check_of words = None
 
+-- `K R W pools programmes applications`
+abbrev pub watch_of : List (List ℕ) → Option Command
+watch_of (looks ∷ letter ∷ workers ∷ p ∷ g ∷ a ∷ []) =
+    option_and_then
+    (λ k. option_and_then (λ l. option_map (λ w. watch k w (names_of l p g a)) (workers_of workers)) (letter_of letter))
+    (looks_of looks)
+watch_of words = None
+
 -- `n W`
 abbrev pub demo_of : List (List ℕ) → Option Command
 demo_of (applicants ∷ workers ∷ []) =
@@ -77,7 +89,8 @@ command_of [] = None
 command_of (name ∷ words) =
     if bytes_eq name (codes "clear") then clear_of words
     else (if bytes_eq name (codes "check") then check_of words
-    else (if bytes_eq name (codes "demo") then demo_of words else None))
+    else (if bytes_eq name (codes "watch") then watch_of words
+    else (if bytes_eq name (codes "demo") then demo_of words else None)))
 
 -- words that are those of this command, and of none
 abbrev pub AreWordsOf : List (List ℕ) → Command → Type 0
@@ -98,15 +111,19 @@ IsDemo words = (applicants : ℕ) × (workers : ℕ) × AreWordsOf words (demo a
 abbrev pub is_clearing : Command → Bool
 is_clearing (clear workers tables) = true
 is_clearing (check tables document) = false
+is_clearing (watch looks workers tables) = true
 is_clearing (demo applicants workers) = true
 
 -- the words are those of a command that does
 abbrev pub IsClearing : List (List ℕ) → Type 0
 IsClearing words = (command : Command) × AreWordsOf words command × (is_clearing command ≡ true)
 
--- a number of workers, and of applicants, that a command can have
+-- a number of workers, of looks and of applicants that a command can have
 abbrev pub AreWorkers : ℕ → Type 0
 AreWorkers workers = (1 ≤ workers) × (workers ≤ MAX_WORKERS)
+
+abbrev pub AreLookCount : ℕ → Type 0
+AreLookCount looks = (1 ≤ looks) × (looks ≤ MAX_LOOKS)
 
 abbrev pub AreApplicants : ℕ → Type 0
 AreApplicants applicants = (1 ≤ applicants) × (applicants ≤ MAX_APPLICANTS)
@@ -115,6 +132,7 @@ AreApplicants applicants = (1 ≤ applicants) × (applicants ≤ MAX_APPLICANTS)
 abbrev pub HasRanges : Command → Type 0
 HasRanges (clear workers tables) = AreWorkers workers
 HasRanges (check tables document) = ⊤
+HasRanges (watch looks workers tables) = AreLookCount looks × AreWorkers workers
 HasRanges (demo applicants workers) = AreApplicants applicants × AreWorkers workers
 
 -- tables and a command that the program has read, by the texts of their names
@@ -124,6 +142,7 @@ tables_in t = names_of t.letter t.pools.now t.programmes.now t.applications.now
 abbrev pub command_in : spoken.Command → Command
 command_in (form.Clear workers tables) = clear workers (tables_in tables)
 command_in (form.Check tables document) = check (tables_in tables) document.now
+command_in (form.Watch looks workers tables) = watch looks workers (tables_in tables)
 command_in (form.Demo applicants workers) = demo applicants workers
 
 -- a file of a command: its table, and its name
@@ -153,6 +172,7 @@ no_inputs = record { rule = rule.H; files = [] }
 abbrev pub inputs_of : Command → Inputs
 inputs_of (clear workers tables) = tables_and tables []
 inputs_of (check tables document) = tables_and tables (file_of Results document ∷ [])
+inputs_of (watch looks workers tables) = tables_and tables []
 inputs_of (demo applicants workers) = no_inputs
 
 -- what three tables alone are read as

@@ -14,6 +14,7 @@ use crate::clear::clear_to;
 use crate::demo::demo_to;
 use crate::ended::Ended;
 use crate::failure::{Failure, report};
+use crate::watch::watch_to;
 use crate::words::Command;
 use sl_desk::Gate;
 use sl_io::{Shelf, Sink};
@@ -58,6 +59,14 @@ fn carry_out<S: Shelf, O: Sink, G: Gate>(
                 Err(failure) => Err(failure),
             }
         }
+        Command::Watch {
+            looks,
+            workers,
+            tables,
+        } => match watch_to(rt, alloc, looks, workers, tables, shelf, out, gate) {
+            Ok(receipt) => Ok(Ended::with_receipt(receipt)),
+            Err(failure) => Err(failure),
+        },
         Command::Demo {
             applicants,
             workers,
@@ -103,15 +112,17 @@ fn perform<S: Shelf, O: Sink, G: Gate>(
 /// Carries out a command. `clear R W pools programmes applications`, where R is `H` or `L` and W the
 /// number of workers, 1 to 64, reads three tables from `shelf`, finds the least stable limits, and
 /// puts the result document to `out`. `check R pools programmes applications result` reads the
-/// tables and such a document, and puts the verdict on it. `demo n W` clears the generated round of
-/// n applicants, 1 to 500,000, and puts its summary. Each worker passes `gate` before each of its
-/// claims.
+/// tables and such a document, and puts the verdict on it. `watch K R W pools programmes
+/// applications` does as `clear` with K looks, 1 to 100, at the limits while the workers work, and
+/// puts first what they saw. `demo n W` clears the generated round of n applicants, 1 to 500,000,
+/// and puts its summary. Each worker passes `gate` before each of its claims, and the reader before
+/// each of its looks.
 ///
 /// The status is 0, for a check where the verdict is Yes; 1 for another verdict; 2 for other words;
 /// 3 for a file that is too long or has a fault; 4 for a file that could not be read; 5 where `out`
 /// failed; 6 where memory ran out. With a status from 2 on one line goes to `err`. With status 0 of
-/// `clear` and `demo` there is the receipt of the floor on which the instance was cleared, and else
-/// none.
+/// `clear`, `watch` and `demo` there is the receipt of the floor on which the instance was cleared,
+/// and else none.
 pub fn run<S: Shelf, O: Sink, E: Sink, G: Gate>(
     rt: &(impl Threads + Sync),
     alloc: Global,

@@ -8,9 +8,11 @@ mod demo;
 mod ended;
 mod failure;
 mod files;
+mod looks;
 mod outcome;
 mod summary;
 mod theorems;
+mod watch;
 mod words;
 
 pub use command::run;

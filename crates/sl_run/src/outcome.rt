@@ -15,8 +15,8 @@ use sl_types::{Instance, OutOfMemory};
 use std::alloc::Global;
 use std::thread::Threads;
 
-// How many entries the log of a worker holds in a round.
-const LOG_ROOM: usize = 65_536;
+/// How many entries the log of a worker holds in a round.
+pub const LOG_ROOM: usize = 65_536;
 
 /// Clears an instance with so many workers: the least stable limits, raises that prove them, the
 /// admissions that they make, and the receipt of the floor.

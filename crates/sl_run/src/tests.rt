@@ -16,6 +16,7 @@ mod nesting;
 mod refusals;
 mod replaying;
 mod verdicts;
+mod watching;
 
 const POOL_HEADER: &str = "pool,quota,parent,kind\n";
 

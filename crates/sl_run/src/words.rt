@@ -2,13 +2,17 @@ ghost use Rattle.std.specs.Prelude.{◌≡◌, ◌≢◌, option_map, IfSome};
 ghost use Rattle.sl_types.specs.declared.kinds.Rule.TheVariants.{Merit};
 ghost use Rattle.sl_codes.specs.Fields.{number_within};
 ghost use Rattle.sl_run.specs.Words.{texts_of, command_in, command_of, HasRanges};
-ghost use Rattle.sl_run.specs.Words.{clear_of, check_of, demo_of, letter_of, letter_rule};
+ghost use Rattle.sl_run.specs.Words.{clear_of, check_of, watch_of, demo_of};
+ghost use Rattle.sl_run.specs.Words.{letter_of, letter_rule};
 
 use sl_codes::number_within;
 use sl_types::{MAX_APPLICANTS, Rule};
 
 /// How many workers there can be.
 pub const MAX_WORKERS: u32 = 64;
+
+/// How many looks there can be.
+pub const MAX_LOOKS: u32 = 100;
 
 /// The letter of a command: the rule of the pools of kind `score`.
 #[derive(Clone, Copy, Debug, PartialEq, Eq)]
@@ -63,6 +67,12 @@ pub enum Command<'a> {
         tables: Tables<'a>,
         document: &'a str,
     },
+    /// `watch K R W pools programmes applications`
+    Watch {
+        looks: u32,
+        workers: u32,
+        tables: Tables<'a>,
+    },
     /// `demo n W`
     Demo {
         applicants: u32,
@@ -89,6 +99,7 @@ impl<'a> Command<'a> {
         match name.as_str() {
             "clear" => Command::clear_of(words),
             "check" => Command::check_of(words),
+            "watch" => Command::watch_of(words),
             "demo" => Command::demo_of(words),
             _ => None,
         }
@@ -127,6 +138,26 @@ impl<'a> Command<'a> {
                     applications: applications.as_str(),
                 },
                 document: document.as_str(),
+            }),
+            _ => None,
+        }
+    }
+
+    // `K R W pools programmes applications`
+    fn watch_of(words: &'a [String]) -> Option<Command<'a>>
+        ensures command { option_map (λ c. command_in c) result ≡ watch_of (texts_of words.now) }
+        ensures ranges { IfSome result (λ c. HasRanges (command_in c)) }
+    {
+        match words {
+            [looks, letter, workers, pools, programmes, applications] => Some(Command::Watch {
+                looks: count_of(looks.as_str(), MAX_LOOKS)?,
+                tables: Tables {
+                    letter: Letter::of(letter.as_str())?,
+                    pools: pools.as_str(),
+                    programmes: programmes.as_str(),
+                    applications: applications.as_str(),
+                },
+                workers: count_of(workers.as_str(), MAX_WORKERS)?,
             }),
             _ => None,
         }

@@ -138,10 +138,10 @@ memory_set : (xs : List SeatValue) (x y : SeatValue) → 0 < length xs → get_o
 memory_set [] x y h is same = absurd (omega (arith, h))
 memory_set (z ∷ xs) x y h is same = same ∙ sym (ap (λ (s : SeatValue). s.log) is)
 
--- what all have together stays
-pub join_keeps : (floor : FloorValue) (room : ℕ) (known : List ℕ) (before : List Logged) (total : ℕ) (crew later : List SeatValue) (more : List Logged) → HasJoined crew later more → first_memory crew ≡ [] → total_of crew ≤ FIRST_ALLOWANCE
-    → AreBack floor room known before total crew → AreBack floor room known (before ++ more) total later
-join_keeps floor room known before total crew later more j none few team =
+-- what all have together stays, where the logs do
+team_joined : (floor : FloorValue) (room : ℕ) (known : List ℕ) (before after : List Logged) (total : ℕ) (crew later : List SeatValue) (more : List Logged) (j : HasJoined crew later more) → total_of crew ≤ FIRST_ALLOWANCE
+    → AreBack floor room known before total crew → AreLogged after (set j.rest 0 (record j.first { view = both_view j.first.view j.last.view })) → AreBack floor room known after total later
+team_joined floor room known before after total crew later more j few team logs =
     let both : SeatValue = record j.first { view = both_view j.first.view j.last.view } in
     let team' : IsTeam (IsBack floor room known) before total (j.rest ++ j.last ∷ []) = subst (IsTeam (IsBack floor room known) before total) j.crew_is team in
     let parts = all_front (IsBack floor room known) j.rest j.last team'.each in
@@ -152,14 +152,42 @@ join_keeps floor room known before total crew later more j none few team =
     let same_total = ap total_of j.crew_is in
     let shares = sum_joined (λ (s : SeatValue). s.view.share) j.rest j.first j.last both j.some j.first_is (share_both j.first j.last (omega (arith, two_shares, all_shares))) in
     let totals = sum_joined (λ (s : SeatValue). s.view.allowance) j.rest j.first j.last both j.some j.first_is (allowance_both j.first j.last (omega (arith, two_totals, same_total, few))) in
-    let memory : first_memory j.rest ≡ [] = memory_front j.rest j.last j.some ∙ (sym (ap first_memory j.crew_is) ∙ none) in
-    let made : AreBack floor room known (before ++ j.last.log) total (set j.rest 0 both) = record {
+    let made : AreBack floor room known after total (set j.rest 0 both) = record {
       each = All-set (IsBack floor room known) j.rest 0 both (back_both floor room known j.first j.last one parts.1) parts.0;
       shares = shares ∙ team'.shares;
       total_is = totals ∙ team'.total_is;
-      logs = logs_joined before j.rest j.first j.last j.some j.first_is memory team'.logs;
+      logs = logs;
     } in
-    subst (λ (l : List Logged). AreBack floor room known (before ++ l) total later) (sym j.more_is) (subst (AreBack floor room known (before ++ j.last.log) total) (sym j.later_is) made)
+    subst (AreBack floor room known after total) (sym j.later_is) made
+
+pub join_keeps : (floor : FloorValue) (room : ℕ) (known : List ℕ) (before : List Logged) (total : ℕ) (crew later : List SeatValue) (more : List Logged) → HasJoined crew later more → first_memory crew ≡ [] → total_of crew ≤ FIRST_ALLOWANCE
+    → AreBack floor room known before total crew → AreBack floor room known (before ++ more) total later
+join_keeps floor room known before total crew later more j none few team =
+    let team' : IsTeam (IsBack floor room known) before total (j.rest ++ j.last ∷ []) = subst (IsTeam (IsBack floor room known) before total) j.crew_is team in
+    let memory : first_memory j.rest ≡ [] = memory_front j.rest j.last j.some ∙ (sym (ap first_memory j.crew_is) ∙ none) in
+    let made = team_joined floor room known before (before ++ j.last.log) total crew later more j few team (logs_joined before j.rest j.first j.last j.some j.first_is memory team'.logs) in
+    subst (λ (l : List Logged). AreBack floor room known (before ++ l) total later) (sym j.more_is) made
+
+-- the last seat has logged nothing
+logs_bare : (before : List Logged) (rest : List SeatValue) (first last : SeatValue) → 0 < length rest → get_or rest 0 first ≡ first → last.log ≡ [] → AreLogged before (rest ++ last ∷ [])
+    → AreLogged before (set rest 0 (record first { view = both_view first.view last.view }))
+logs_bare before [] first last some is none logs = absurd (omega (arith, some))
+logs_bare before (s ∷ others) first last some is none logs =
+    let split = all_front (λ (x : SeatValue). x.view.actor.log ≡ x.log) others last logs.1 in
+    let whole : first.view.actor.log ≡ before ++ first.log = subst (λ (x : SeatValue). x.view.actor.log ≡ before ++ x.log) is logs.0 in
+    (ap (λ (l : List Logged). first.view.actor.log ++ l) (split.1 ∙ none) ∙ (append-nil first.view.actor.log ∙ whole), split.0)
+
+pub bare_joins : (floor : FloorValue) (room : ℕ) (known : List ℕ) (before : List Logged) (total : ℕ) (crew later : List SeatValue) → HasJoined crew later [] → total_of crew ≤ FIRST_ALLOWANCE
+    → AreBack floor room known before total crew → AreBack floor room known before total later × (length later + 1 ≡ length crew)
+bare_joins floor room known before total crew later j few team =
+    let team' : IsTeam (IsBack floor room known) before total (j.rest ++ j.last ∷ []) = subst (IsTeam (IsBack floor room known) before total) j.crew_is team in
+    let long = length-set j.rest 0 (record j.first { view = both_view j.first.view j.last.view }) in
+    let was = ap length j.crew_is in
+    let whole = length-append j.rest (j.last ∷ []) in
+    let l = ap length j.later_is in (
+      team_joined floor room known before before total crew later [] j few team (logs_bare before j.rest j.first j.last j.some j.first_is (sym j.more_is) team'.logs),
+      omega (arith, l, long, was, whole),
+    )
 
 pub join_rests : (floor : FloorValue) (room : ℕ) (crew later : List SeatValue) (more : List Logged) → HasJoined crew later more → first_memory crew ≡ [] → AreAtRest floor room crew
     → AreAtRest floor room later × (first_memory later ≡ []) × (length later + 1 ≡ length crew)

@@ -5,3 +5,5 @@ pub mod Worked
 pub mod Tickets
 pub mod Merged
 pub mod Opened
+pub mod Watched
+pub mod Beside

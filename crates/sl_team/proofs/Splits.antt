@@ -1,5 +1,5 @@
 -- A seat of a crew that is split.
-use Rattle.std.proofs.Common.{◌≡◌, ◌∙◌, ℕ, zero, suc, ◌+◌, ◌/◌, ◌<◌, ◌≤◌, false, List, [], ◌∷◌, ◌++◌, All, length, get_or, set, sym, ap, subst, arith, length-set, length-append, get_or-set_other}
+use Rattle.std.proofs.Common.{◌≡◌, ◌∙◌, ℕ, zero, suc, ◌+◌, ◌/◌, ◌<◌, ◌≤◌, Bool, List, [], ◌∷◌, ◌++◌, All, length, get_or, set, sym, ap, subst, arith, length-set, length-append, get_or-set_other}
 use Rattle.std.specs.List.{AllWithin}
 use Rattle.std.proofs.lemmas.List.Elements.{All-set, All-push}
 use Rattle.std.proofs.lemmas.List.Sums.{sum_by-set, sum_by_push}
@@ -16,8 +16,8 @@ module _ (floor : FloorValue) (room : ℕ) (known : List ℕ) where
   stays_fresh : (s : SeatValue) → IsFresh floor room known s → 2 ≤ s.view.share → IsFresh floor room known (record s { view = stay_view s.view })
   stays_fresh s f two = record { of = record { table = f.of.table; market = f.of.market; kept = f.of.kept; shares = omega (arith, two) }; idle = f.idle; room_is = f.room_is; log = f.log; knows = f.knows }
 
-  goes_fresh : (s made : SeatValue) → IsFresh floor room known s → 2 ≤ s.view.share → made.view ≡ go_view false s.view → made.table ≡ s.table → made.log ≡ [] → made.room ≡ room → IsFresh floor room known made
-  goes_fresh s made f two view table log room_is = record {
+  goes_fresh : (bare : Bool) (s made : SeatValue) → IsFresh floor room known s → 2 ≤ s.view.share → made.view ≡ go_view bare s.view → made.table ≡ s.table → made.log ≡ [] → made.room ≡ room → IsFresh floor room known made
+  goes_fresh bare s made f two view table log room_is = record {
     of = record {
       table = table ∙ f.of.table;
       market = ap (λ v. v.market) view ∙ f.of.market;
@@ -30,14 +30,14 @@ module _ (floor : FloorValue) (room : ℕ) (known : List ℕ) where
     knows = ap (λ v. v.actor.known) view ∙ f.knows;
   }
 
-logs_split : (before : List Logged) (crew : List SeatValue) (at : ℕ) (s made : SeatValue) → AreLogged before crew → at < length crew → get_or crew at s ≡ s → made.view ≡ go_view false s.view → made.log ≡ []
+logs_split : (bare : Bool) (before : List Logged) (crew : List SeatValue) (at : ℕ) (s made : SeatValue) → AreLogged before crew → at < length crew → get_or crew at s ≡ s → made.view ≡ go_view bare s.view → made.log ≡ []
     → AreLogged before (set crew at (record s { view = stay_view s.view }) ++ made ∷ [])
-logs_split before [] at s made logs h is view log = absurd (omega (arith, h))
-logs_split before (first ∷ others) zero s made logs h is view log = (
+logs_split bare before [] at s made logs h is view log = absurd (omega (arith, h))
+logs_split bare before (first ∷ others) zero s made logs h is view log = (
   subst (λ (x : SeatValue). x.view.actor.log ≡ before ++ x.log) is logs.0,
   All-push (λ (x : SeatValue). x.view.actor.log ≡ x.log) others made logs.1 (ap (λ v. v.actor.log) view ∙ sym log),
 )
-logs_split before (first ∷ others) (suc at) s made logs h is view log =
+logs_split bare before (first ∷ others) (suc at) s made logs h is view log =
     let own : s.view.actor.log ≡ s.log = subst (λ (x : SeatValue). x.view.actor.log ≡ x.log) is (logs.1 at s (omega (arith, h))) in (
       logs.0,
       All-push (λ (x : SeatValue). x.view.actor.log ≡ x.log) _ made (All-set (λ (x : SeatValue). x.view.actor.log ≡ x.log) others at (record s { view = stay_view s.view }) own logs.1)
@@ -45,15 +45,15 @@ logs_split before (first ∷ others) (suc at) s made logs h is view log =
     )
 
 -- all seats together have what they had
-pub split_keeps : (floor : FloorValue) (room : ℕ) (known : List ℕ) (before : List Logged) (total : ℕ) (crew later : List SeatValue) (at : ℕ) → IsTeam (IsFresh floor room known) before total crew → at < length crew
-    → ((d : SeatValue) → 2 ≤ (get_or crew at d).view.share) → IsSplitAt room at crew later → IsTeam (IsFresh floor room known) before total later
-split_keeps floor room known before total crew later at team h two split =
+pub split_keeps : (floor : FloorValue) (room : ℕ) (known : List ℕ) (before : List Logged) (total : ℕ) (bare : Bool) (crew later : List SeatValue) (at : ℕ) → IsTeam (IsFresh floor room known) before total crew → at < length crew
+    → ((d : SeatValue) → 2 ≤ (get_or crew at d).view.share) → IsSplitAt room at bare crew later → IsTeam (IsFresh floor room known) before total later
+split_keeps floor room known before total bare crew later at team h two split =
     let s = split.seat in
     let made = split.made in
     let stay : SeatValue = record s { view = stay_view s.view } in
     let its : 2 ≤ s.view.share = subst (λ (x : SeatValue). 2 ≤ x.view.share) split.place (two s) in
     let fresh : IsFresh floor room known s = subst (λ (x : SeatValue). IsFresh floor room known x) split.place (team.each at s h) in
-    let new_seat = goes_fresh floor room known s made fresh its split.view split.table split.log split.room_is in
+    let new_seat = goes_fresh floor room known bare s made fresh its split.view split.table split.log split.room_is in
     let its_share = ap (λ v. v.share) split.view in
     let its_allowance = ap (λ v. v.allowance) split.view in
     let same_share = ap (λ (x : SeatValue). x.view.share) split.place in
@@ -68,14 +68,14 @@ split_keeps floor room known before total crew later at team h two split =
       each = All-push (IsFresh floor room known) (set crew at stay) made (All-set (IsFresh floor room known) crew at stay (stays_fresh floor room known s fresh its) team.each) new_seat;
       shares = omega (arith, shares, more_shares, all_shares, its_share, same_share);
       total_is = omega (arith, allowances, more_allowances, all_allowances, its_allowance, same_allowance);
-      logs = logs_split before crew at s made team.logs h split.place split.view split.log;
+      logs = logs_split bare before crew at s made team.logs h split.place split.view split.log;
     })
 
 -- the halves have half of what each had at least; the seats of the level that come after have that
-pub level_keeps : (share allowance room at count : ℕ) (crew later : List SeatValue) → at < count → count ≤ length crew → IsSplitAt room at crew later
+pub level_keeps : (share allowance room at count : ℕ) (bare : Bool) (crew later : List SeatValue) → at < count → count ≤ length crew → IsSplitAt room at bare crew later
     → All (HasAtLeast (share / 2) (allowance / 2)) crew → AllWithin (HasAtLeast share allowance) crew at count
     → All (HasAtLeast (share / 2) (allowance / 2)) later × AllWithin (HasAtLeast share allowance) later (at + 1) count
-level_keeps share allowance room at count crew later h k split low rest =
+level_keeps share allowance room at count bare crew later h k split low rest =
     let s = split.seat in
     let made = split.made in
     let stay : SeatValue = record s { view = stay_view s.view } in
@@ -94,8 +94,8 @@ level_keeps share allowance room at count crew later h k split low rest =
           subst (HasAtLeast share allowance) (sym here) (rest j d (omega (arith, above)) below),
     )
 
-pub split_long : (room at : ℕ) (crew later : List SeatValue) → IsSplitAt room at crew later → length later ≡ length crew + 1
-split_long room at crew later split =
+pub split_long : (room at : ℕ) (bare : Bool) (crew later : List SeatValue) → IsSplitAt room at bare crew later → length later ≡ length crew + 1
+split_long room at bare crew later split =
     let stay : SeatValue = record split.seat { view = stay_view split.seat.view } in
     let a = ap length split.later_is in
     let b = length-append (set crew at stay) (split.made ∷ []) in

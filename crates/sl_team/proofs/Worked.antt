@@ -18,7 +18,7 @@ use Rattle.sl_team.specs.Crew.{IsTeam, AreBack, IsFreshTeam, AreLogged, AreAtRes
 use Rattle.sl_desk.proofs.Falls.{room_falls}
 
 -- what each seat of a crew may draw is enough
-pub enough : (total pools : ℕ) (known : List ℕ) → AreLimits known → length known ≡ pools → pools ≤ MAX_POOLS → FIRST_ALLOWANCE ≤ total + round_top * sum known → 65536 ≤ halved 7 total
+pub enough : (total pools : ℕ) (known : List ℕ) → AreLimits known → length known ≡ pools → pools ≤ MAX_POOLS → FIRST_ALLOWANCE ≤ total + round_top * sum known → 131072 ≤ halved 7 total
 enough total pools known limits long few lasts =
     let low = sum_by-le (λ (y : ℕ). y) (MAX_SCORE + 1) known limits in
     let pools' : length known ≤ MAX_POOLS = omega (arith, long, few) in
@@ -129,17 +129,16 @@ back_rests floor room known before total crew team few = record {
 }
 
 pub between : (floor : FloorValue) (room : ℕ) (gathered gathered' : List Logged) (crew later : List SeatValue) (spares spares' : List SpareValue) (total : ℕ)
-    → IsBetween floor room gathered crew spares → first_has_left crew ≡ true → length later ≡ 1 → first_memory later ≡ [] → All (IsSpare floor room) spares' → length spares' ≡ length spares
+    → IsBetween floor room gathered crew spares → FIRST_ALLOWANCE ≤ total_of crew + round_top * sum (first_known crew) → length later ≡ 1 → first_memory later ≡ [] → All (IsSpare floor room) spares' → length spares' ≡ length spares
     → total_of crew ≤ total + round_top → total ≤ total_of crew → AreBack floor room (first_known crew) (logged_from 0 floor.kept ++ gathered') total later
     → IsBetween floor room gathered' later spares' × HasRounded crew later
-between floor room gathered gathered' crew [] spares spares' total was left one memory fits same low high team = absurd team.logs
-between floor room gathered gathered' crew (s ∷ []) spares spares' total was left one memory fits same low high team =
+between floor room gathered gathered' crew [] spares spares' total was lasts one memory fits same low high team = absurd team.logs
+between floor room gathered gathered' crew (s ∷ []) spares spares' total was lasts one memory fits same low high team =
     let b = All-head (IsBack floor room (first_known crew)) s [] team.each in
     let log : s.view.actor.log ≡ logged_from 0 floor.kept ++ gathered' = team.logs.0 ∙ (ap (λ (l : List Logged). (logged_from 0 floor.kept ++ gathered') ++ l) memory ∙ append-nil (logged_from 0 floor.kept ++ gathered')) in
     let total_is = team.total_is in
     let few = was.few in
-    let top = was.top in
-    let lasts = was.lasts left in (
+    let top = was.top in (
       record {
         one = one;
         team = record {
@@ -158,7 +157,7 @@ between floor room gathered gathered' crew (s ∷ []) spares spares' total was l
       },
       record { knows = b.knows; more = b.more },
     )
-between floor room gathered gathered' crew (s ∷ (t ∷ ts)) spares spares' total was left one memory fits same low high team = absurd (omega (arith, one))
+between floor room gathered gathered' crew (s ∷ (t ∷ ts)) spares spares' total was lasts one memory fits same low high team = absurd (omega (arith, one))
 
 -- with each round fewer are to come
 pub rounds_fall : (crew later : List SeatValue) → AreLimits (first_known crew) → first_has_left crew ≡ true → HasRounded crew later → rounds_within later < rounds_within crew
@@ -191,5 +190,5 @@ module _ (floor : FloorValue) (room : ℕ) (gathered : List Logged) (crew split 
       let split_few : length split ≤ 65 = omega (arith, count, few) in
       let most = mul-le-mul_right room split_few in
       let before : AreBack floor room (first_known crew) (logged_from 0 floor.kept ++ gathered) (total_of worked) worked = subst (λ (l : List Logged). AreBack floor room (first_known crew) l (total_of worked) worked) was.log its.0 in
-      between floor room gathered gathered' crew later spares spares' (total_of worked) was any one memory fits (omega (arith, back, none, count, same)) (omega (arith, low, most, small)) high
+      between floor room gathered gathered' crew later spares spares' (total_of worked) was (was.lasts any) one memory fits (omega (arith, back, none, count, same)) (omega (arith, low, most, small)) high
       (joined (first_known crew) (logged_from 0 floor.kept) (total_of worked) before)

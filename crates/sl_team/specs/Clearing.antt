@@ -1,5 +1,5 @@
 -- What a clearing by a team answers.
-use Rattle.std.specs.Prelude.{◌≡◌, ℕ, List}
+use Rattle.std.specs.Prelude.{◌≡◌, ℕ, ◌+◌, ◌<◌, ◌≤◌, List, [], length, slice_index, slice_index_or}
 use Rattle.sl_types.specs.declared.kinds.Raise.{Raise}
 use Rattle.sl_types.specs.Market.{Market}
 use Rattle.sl_laws.specs.Raises.{without_void}
@@ -22,3 +22,14 @@ abbrev pub AreLoggedRaises : Market → ClearedValue → Type 0
 AreLoggedRaises market cleared =
     (ordered : List Raise) → IsOrdered cleared.receipt.log ordered
     → cleared.raises ≡ without_void market ordered
+
+-- a vector is at most another, pool by pool, and has as many numbers
+pub record IsAtMost (limits seen : List ℕ) : Type 0 where
+  pub each : length seen ≡ length limits
+  pub low : (P : ℕ) → slice_index seen P ≤ slice_index limits P
+
+-- each look saw at least what the look before saw
+abbrev pub AreRising : List (List ℕ) → Type 0
+AreRising seen =
+    (k : ℕ) → k + 1 < length seen
+    → IsAtMost (slice_index_or seen (k + 1) []) (slice_index_or seen k [])

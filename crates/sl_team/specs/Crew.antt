@@ -55,13 +55,13 @@ pub record AreAtRest (floor : FloorValue) (room : ℕ) (crew : List SeatValue) :
   pub shares : sum_by (λ s. s.view.share) crew ≡ WHOLE_SHARE
   pub total : total_of crew ≤ FIRST_ALLOWANCE
 
--- the seat at this place is split: one half stays there, and the other comes at the end
-pub record IsSplitAt (room at : ℕ) (crew later : List SeatValue) : Type 0 where
+-- the seat at this place is split: one half stays there, and the other, bare or not, comes at the end
+pub record IsSplitAt (room at : ℕ) (bare : Bool) (crew later : List SeatValue) : Type 0 where
   pub seat : SeatValue
   pub made : SeatValue
   pub place : slice_index_or crew at seat ≡ seat
   pub later_is : later ≡ set crew at (record seat { view = stay_view seat.view }) ++ made ∷ []
-  pub view : made.view ≡ go_view false seat.view
+  pub view : made.view ≡ go_view bare seat.view
   pub table : made.table ≡ seat.table
   pub log : made.log ≡ []
   pub room_is : made.room ≡ room

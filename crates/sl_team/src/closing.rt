@@ -1,5 +1,5 @@
 // The end of a clearing: the floor is closed, and what was logged is merged.
-ghost use Rattle.std.specs.Prelude.{◌≡◌, ◌++◌, [], length, slice_index, IfOk};
+ghost use Rattle.std.specs.Prelude.{◌≡◌, ◌++◌, All, length, slice_index, IfOk};
 ghost use Rattle.sl_laws.specs.Stable.{IsLeastStable};
 ghost use Rattle.sl_laws.specs.Raises.{Replays, Proves};
 ghost use Rattle.sl_nesting.specs.Published.{ArePublished};
@@ -8,8 +8,10 @@ ghost use Rattle.sl_core.specs.Parts.{BeginsWith};
 ghost use Rattle.sl_floor.specs.declared.shares.TheConstants.{WHOLE_SHARE};
 ghost use Rattle.sl_floor.specs.Floor.{IsOf, IsIdle, HasNoneLeft};
 ghost use Rattle.sl_floor.specs.Ending.{IsWholeLog, IsProved};
-ghost use Rattle.sl_team.specs.Clearing.{IsReceiptOf, AreLoggedRaises};
+ghost use Rattle.sl_team.specs.Clearing.{IsReceiptOf, AreLoggedRaises, IsAtMost};
+ghost use Rattle.sl_team.specs.Watching.{AreSeen};
 
+use crate::seen::Seen;
 use sl_floor::{Floor, Receipt, Seat};
 use sl_nesting::published;
 use sl_proof::merge;
@@ -88,6 +90,7 @@ pub fn finish(
     floor: Floor,
     seat: Seat,
     gathered: Vec<Logged>,
+    seen: Seen,
 ) -> Result<Cleared, OutOfMemory>
     requires floor { (floor.market ≡ instance.now) × (floor.kept ≡ kept.now) }
     requires kept { Replays instance.now kept.now }
@@ -96,6 +99,7 @@ pub fn finish(
     requires whole { seat.view.share ≡ WHOLE_SHARE }
     requires quiet { HasNoneLeft seat }
     requires log { seat.view.actor.log ≡ logged_from 0 kept.now ++ gathered.items }
+    requires seen { AreSeen instance.now seen }
     ensures least { IfOk result (λ c. IsLeastStable instance.now (slice_index c.limits)) }
     ensures proves { IfOk result (λ c. Proves instance.now c.raises (slice_index c.limits)) }
     ensures begins { IfOk result (λ c. BeginsWith kept.now c.raises) }
@@ -105,7 +109,8 @@ pub fn finish(
     ensures published { IfOk result
         (λ c. ArePublished instance.now (slice_index c.receipt.words) c.limits) }
     ensures logged { IfOk result (AreLoggedRaises instance.now) }
-    ensures seen { IfOk result (λ c. c.seen ≡ []) }
+    ensures seen { IfOk result (λ c. c.seen ≡ seen) }
+    ensures low { IfOk result (λ c. All (IsAtMost c.limits) c.seen) }
 {
     let (words, receipt) = close(alloc, floor, seat, instance.pools())?;
     let limits = published_limits(alloc, instance, &words)?;
@@ -113,7 +118,7 @@ pub fn finish(
     Ok(Cleared {
         limits,
         raises,
-        seen: Vec::new(alloc),
+        seen: seen.looks,
         receipt,
     })
 }

@@ -4,10 +4,13 @@
 mod clearing;
 mod closing;
 mod crew;
+mod first_round;
 mod joining;
 mod opening;
 mod rounds;
+mod seen;
 mod splitting;
+mod watching;
 
 pub use clearing::clear;
 pub use closing::Cleared;

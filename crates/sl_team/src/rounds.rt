@@ -58,7 +58,12 @@ fn work_all<R: Threads + Sync, G: Gate>(rt: &R, floor: &Floor, crew: &mut [Place
 }
 
 // The same, where the seats are a vector.
-fn work_crew<R: Threads + Sync, G: Gate>(rt: &R, floor: &Floor, crew: &mut Vec<Place>, job: &Job<G>)
+pub fn work_crew<R: Threads + Sync, G: Gate>(
+    rt: &R,
+    floor: &Floor,
+    crew: &mut Vec<Place>,
+    job: &Job<G>,
+)
     requires seats { All (MayWork floor.now) crew.old.items }
     requires job { job.now ≡ floor.now.market }
     ensures length { length crew.new.items ≡ length crew.old.items }

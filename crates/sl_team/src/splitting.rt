@@ -1,5 +1,5 @@
 // One seat becomes one for each worker: each seat of a level is split once.
-ghost use Rattle.std.specs.Prelude.{◌≡◌, ◌≤◌, ◌<◌, ◌+◌, ◌*◌, ◌⊎◌, ◌/◌, ℕ, List, All, length, vec_capacity, OnOk};
+ghost use Rattle.std.specs.Prelude.{◌≡◌, ◌≤◌, ◌<◌, ◌+◌, ◌*◌, ◌⊎◌, ◌/◌, ℕ, false, List, All, length, vec_capacity, OnOk};
 ghost use Rattle.std.specs.List.{HoldsAt};
 ghost use Rattle.sl_floor.specs.declared.shares.TheConstants.{WHOLE_SHARE};
 ghost use Rattle.sl_team.specs.Seats.{CanSplit, HasAtLeast, IsSpare};
@@ -24,7 +24,7 @@ fn split_at(
     requires within { at < length crew.old.items }
     requires seat { HoldsAt (CanSplit floor.now) crew.old.items at }
     requires spare { IsSpare floor.now room spare }
-    ensures { OnOk result (IsSplitAt room at crew.old.items crew.new.items) }
+    ensures { OnOk result (IsSplitAt room at false crew.old.items crew.new.items) }
 {
     let Spare { blank, desk } = spare;
     let seat = floor.split(&mut crew[at].seat, blank, false);

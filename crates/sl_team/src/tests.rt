@@ -16,6 +16,7 @@ use std::thread::Threads;
 
 mod examples;
 mod meeting;
+mod watching;
 
 const A: PoolId = PoolId(0);
 

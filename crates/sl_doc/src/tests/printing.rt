@@ -234,3 +234,37 @@ fn verdicts(rt: HostRuntime) -> Result<(), Fail> {
     let named = quoted_codes(rt.alloc())?;
     expect_verdicts(&rt, &named)
 }
+
+// What a look saw where the look before saw so much, printed to a sink with so much room.
+fn expect_seen<R: Abort + AllocGlobal>(
+    rt: &R,
+    named: &Named,
+    before: [u32; 2],
+    room: usize,
+    text: &str,
+) -> Result<(), Fail> {
+    assert_eq!(rt; named.instance().pools(), 2);
+    let mut out = MemSink::new(rt.alloc(), room)?;
+    let found = seen_text(rt.alloc(), named, 100, &before, &[453, 448], &mut out);
+    assert_eq!(rt; found.is_err(), text.len() == room);
+    assert_eq!(rt; out.bytes(), text.as_bytes());
+    Ok(())
+}
+
+#[test]
+fn looks(rt: HostRuntime) -> Result<(), Fail> {
+    let named = quoted_codes(rt.alloc())?;
+    for (before, room, text) in [
+        (
+            [0, 0],
+            100,
+            "seen,100,\"ELTE IK, nappali\",453\nseen,100,\"He said \"\"no\"\"\",448\n",
+        ),
+        ([453, 447], 100, "seen,100,\"He said \"\"no\"\"\",448\n"),
+        ([453, 448], 100, ""),
+        ([452, 448], 12, "seen,100,\"EL"),
+    ] {
+        expect_seen(&rt, &named, before, room, text)?;
+    }
+    Ok(())
+}

@@ -1,5 +1,5 @@
 use Rattle.std.proofs.Common.{[]}
-use Rattle.sl_amend.proofs.Stays.{list_written}
+use Rattle.sl_amend.proofs.Written.{list_written}
 use Rattle.sl_amend.proofs.roll.clear_at.Goals as goal
 
 pub returns : goal.returns

@@ -1,6 +1,6 @@
 use Rattle.sl_amend.specs.Applied.{with_choice}
 use Rattle.sl_amend.proofs.Counted.{always_err}
-use Rattle.sl_amend.proofs.Stays.{list_written, list_kept}
+use Rattle.sl_amend.proofs.Written.{list_written, list_kept}
 use Rattle.sl_amend.proofs.roll.insert_at.Goals as goal
 
 pub returns-clause-ok : goal.returns-clause-ok

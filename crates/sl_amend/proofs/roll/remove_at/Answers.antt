@@ -1,5 +1,5 @@
 use Rattle.std.specs.Prelude.{remove}
-use Rattle.sl_amend.proofs.Stays.{list_written}
+use Rattle.sl_amend.proofs.Written.{list_written}
 use Rattle.sl_amend.proofs.roll.remove_at.Goals as goal
 
 pub returns-clause-lists : goal.returns-clause-lists

@@ -1,6 +1,6 @@
 use Rattle.std.proofs.Common.{set, get_or, refl}
 use Rattle.std.specs.Vec.{with_item}
-use Rattle.sl_amend.proofs.Stays.{list_written}
+use Rattle.sl_amend.proofs.Written.{list_written}
 use Rattle.sl_amend.proofs.roll.write_at.Goals as goal
 
 pub returns : goal.returns

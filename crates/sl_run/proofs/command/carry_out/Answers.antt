@@ -33,3 +33,15 @@ returns-in-Err-demo_to-clause-left g c = rw c.in-Demo.is (c.in-Err-demo_to.ensur
 pub returns-in-Err-demo_to-clause-cause : goal.returns-in-Err-demo_to-clause-cause
 returns-in-Err-demo_to-clause-cause g c =
     rw c.in-Demo.is (c.in-Err-demo_to.ensures.cause (g.S.Shelf.files c.args.shelf.now) (g.S.Shelf.files c.args.shelf.now))
+
+pub returns-in-Ok-watch_to-clause-done : goal.returns-in-Ok-watch_to-clause-done
+returns-in-Ok-watch_to-clause-done g c = rw (c.in-Watch.is, c.with_receipt-in-Ok-watch_to.ensures) (nothing_read, Yes, refl)
+
+pub returns-in-Ok-watch_to-clause-floor : goal.returns-in-Ok-watch_to-clause-floor
+returns-in-Ok-watch_to-clause-floor g c = rw c.with_receipt-in-Ok-watch_to.ensures c.in-Ok-watch_to.ensures.floor
+
+pub returns-in-Err-watch_to-clause-left : goal.returns-in-Err-watch_to-clause-left
+returns-in-Err-watch_to-clause-left g c = rw c.in-Watch.is c.in-Err-watch_to.ensures.left
+
+pub returns-in-Err-watch_to-clause-cause : goal.returns-in-Err-watch_to-clause-cause
+returns-in-Err-watch_to-clause-cause g c = rw c.in-Watch.is c.in-Err-watch_to.ensures.cause

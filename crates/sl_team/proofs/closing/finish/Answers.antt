@@ -1,4 +1,4 @@
-use Rattle.std.proofs.Common.{◌≡◌, ◌∙◌, ℕ, List, slice_index, ap, sym, subst, arith}
+use Rattle.std.proofs.Common.{◌≡◌, ◌∙◌, ℕ, List, All, slice_index, ap, sym, subst, arith}
 use Rattle.sl_types.specs.declared.kinds.Raise.{Raise}
 use Rattle.sl_types.specs.declared.kinds.Logged.{Logged}
 use Rattle.sl_types.specs.Market.{Market}
@@ -8,6 +8,8 @@ use Rattle.sl_laws.proofs.AllRules.{proves_the_least}
 use Rattle.sl_core.specs.Parts.{BeginsWith}
 use Rattle.sl_floor.specs.Ending.{IsOrdered}
 use Rattle.sl_team.proofs.Merged.{gathered_within, merged_is, begins, proves_same}
+use Rattle.sl_team.specs.Clearing.{IsAtMost}
+use Rattle.sl_team.proofs.Watched.{seen_at_most}
 use Rattle.sl_team.proofs.closing.finish.Goals as goal
 
 pub merge-requires-clause-within : goal.merge-requires-clause-within
@@ -49,3 +51,8 @@ returns-clause-begins c =
 
 pub returns-clause-least : goal.returns-clause-least
 returns-clause-least c = proves_the_least c.args.instance.now c.pools.ensures.well_formed c.in_ok-raises.raises.items (slice_index c.in_ok-limits.limits.items) (returns-clause-proves c)
+
+pub returns-clause-low : goal.returns-clause-low
+returns-clause-low c =
+    let limits = c.in_ok-limits.limits.items in
+    subst (All (IsAtMost limits)) (sym c.seen.view_is) (seen_at_most c.args.instance.now limits c.args.seen (returns-clause-least c).0 c.in_ok-limits.ensures.each c.requires.seen)

@@ -15,7 +15,7 @@ work_crew-requires-clause-seats g c _ _ =
     let was = c.requires.state in
     let crew = c.args.crew.now.items in
     let large = enough (total_of crew) (length c.args.floor.now.market.pools) (first_known crew) was.limits was.long c.requires.pools (was.lasts c.requires.left) in
-    let seats = may_work c.args.floor.now c.args.room (first_known crew) (halved 7 WHOLE_SHARE) (halved 7 (total_of crew)) c.split_all.new.crew.items was.limits c.requires.room.1 large c.in_ok-split_all.ensures.crew.each c.in_ok-split_all.ensures.allowances in
+    let seats = may_work c.args.floor.now c.args.room (first_known crew) (halved 7 WHOLE_SHARE) (halved 7 (total_of crew)) c.split_all.new.crew.items was.limits c.requires.room.1 (omega (arith, large)) c.in_ok-split_all.ensures.crew.each c.in_ok-split_all.ensures.allowances in
     seats
 
 pub join_all-requires-clause-some : goal.join_all-requires-clause-some

@@ -1,4 +1,4 @@
-use Rattle.std.proofs.Common.{◌≡◌, ◌∙◌, ◌<◌, ◌≤◌, ◌+◌, ◌/◌, ◌∷◌, [], All, length, get_or, ap, subst, arith, append-nil, length-append, inr, refl}
+use Rattle.std.proofs.Common.{◌≡◌, ◌∙◌, ◌<◌, ◌≤◌, false, ◌+◌, ◌/◌, ◌∷◌, [], All, length, get_or, ap, subst, arith, append-nil, length-append, inr, refl}
 use Rattle.std.proofs.lemmas.List.Elements.{All-weaker}
 use Rattle.sl_floor.specs.Floor.{SeatValue}
 use Rattle.sl_team.specs.Seats.{IsSpare, HasAtLeast}
@@ -62,19 +62,19 @@ loop-at-preserved c =
     let inside : at < length crew = omega (arith, long) in
     let all = subst (All (IsSpare floor room)) c.in-Some.ensures.items c.loop-at.invariant.spares in
     let parts = all_front (IsSpare floor room) c.pop.new.self.items c.in-Some.spare all in
-    let split : IsSplitAt room at crew later = c.in_ok-split_at.ensures in
-    let longer = split_long room at crew later split in
+    let split : IsSplitAt room at false crew later = c.in_ok-split_at.ensures in
+    let longer = split_long room at false crew later split in
     let popped : length c.loop-at.spares.items ≡ length c.pop.new.self.items + 1 = ap length c.in-Some.ensures.items ∙ length-append c.pop.new.self.items (c.in-Some.spare ∷ []) in
     let two : (d : SeatValue) → 2 ≤ (get_or crew at d).view.share = λ d. ((c.loop-at.invariant.halves 2 0 c.requires.shares).1 at d (omega arith) (omega arith)).0 in
     record {
-      crew = split_keeps floor room known (first_log c.args.crew.now.items) (total_of c.args.crew.now.items) crew later at c.loop-at.invariant.crew inside two split;
+      crew = split_keeps floor room known (first_log c.args.crew.now.items) (total_of c.args.crew.now.items) false crew later at c.loop-at.invariant.crew inside two split;
       spares = parts.0;
       long = omega (arith, longer, long);
       count = omega (arith, longer, popped, count);
       capacity = c.in-Some.ensures.capacity ∙ c.loop-at.invariant.capacity;
       halves = λ share allowance low.
           let before = c.loop-at.invariant.halves share allowance low in
-          level_keeps share allowance room at (length c.args.crew.now.items) crew later (omega arith) (omega (arith, long)) split before.0 before.1;
+          level_keeps share allowance room at (length c.args.crew.now.items) false crew later (omega arith) (omega (arith, long)) split before.0 before.1;
     }
 
 pub returns-clause-crew : goal.returns-clause-crew

@@ -5,7 +5,7 @@ use Rattle.sl_types.specs.declared.kinds.PoolId.{PoolId}
 use Rattle.sl_types.specs.Market.{Market}
 use Rattle.sl_types.specs.Valid.{IsValid}
 use Rattle.sl_amend.specs.Roll.{lists_of}
-use Rattle.sl_amend.proofs.ValidLists.{valid_nested, valid_free}
+use Rattle.sl_amend.proofs.ValidLists.{valid_nested, valid_quotas, valid_free}
 use Rattle.sl_amend.proofs.register.Register.of.Goals as goal
 
 pub returns-clause-register : goal.returns-clause-register
@@ -26,6 +26,8 @@ returns-clause-register c =
       each_pool = ap (λ (codes : List (List ℕ)). length codes) pool_codes ∙ coded.each_pool ∙ sym (ap (λ (ps : List Pool). length ps) pools);
       each_prog = ap (λ (codes : List (List ℕ)). length codes) prog_codes ∙ coded.each_prog ∙ sym (ap (λ (gs : List PoolId). length gs) progs);
       each_applicant = ap (λ (codes : List (List ℕ)). length codes) app_codes ∙ coded.each_applicant ∙ sym (ap (λ (ls : List (List Entry)). length ls) lists);
+      coded = rw app_codes coded.applicants.coded;
+      quotas = rw pools (valid_quotas market valid);
       nested = rw pools (valid_nested market valid);
       trees = roll.trees ∙ (rw (c.deref.ensures.value, c.deref-2.ensures.value) at c.in_ok-trees.ensures);
       roll = roll.roll;

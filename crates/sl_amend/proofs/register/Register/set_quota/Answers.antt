@@ -2,7 +2,7 @@ use Rattle.std.proofs.Common.{◌≡◌, ◌∙◌, sym, ap, set, length-set}
 use Rattle.sl_types.specs.declared.kinds.Pool.{Pool}
 use Rattle.sl_types.specs.Market.{no_pool}
 use Rattle.sl_types.proofs.Lists.{get_or_inside}
-use Rattle.sl_amend.proofs.Quotas.{shape, quota_shapes, nesting_same, trees_same}
+use Rattle.sl_amend.proofs.Quotas.{shape, quota_shapes, nesting_same, trees_same, quotas_set}
 use Rattle.sl_amend.proofs.register.Register.set_quota.Goals as goal
 
 pub returns-clause-register : goal.returns-clause-register
@@ -19,6 +19,8 @@ returns-clause-register c =
       each_pool = h.each_pool ∙ sym sizes;
       each_prog = h.each_prog;
       each_applicant = h.each_applicant;
+      coded = h.coded;
+      quotas = quotas_set pools P pool h.quotas c.requires.fits.low c.requires.fits.high;
       nested = nesting_same pools (set pools P pool) shapes sizes ∙ h.nested;
       trees = h.trees ∙ sym (trees_same pools (set pools P pool) shapes sizes c.args.self.now.progs.items);
       roll = h.roll;

@@ -1,7 +1,7 @@
 use Rattle.std.proofs.Common.{◌≡◌, ◌++◌, List, length, position, None}
 use Rattle.sl_codes.specs.Records.{Record, rows_of}
 use Rattle.sl_amend.specs.Files.{names_differing, names_tied}
-use Rattle.sl_amend.proofs.passes.passes_fault.Given as goal
+use Rattle.sl_amend.proofs.passes.fault_read.Given as goal
 
 -- of the rows so far none names a choice that differs, and the first that names a tied one is known
 abbrev pub invariant-rows : goal.invariant-rows

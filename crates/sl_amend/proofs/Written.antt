@@ -1,5 +1,5 @@
 -- Vectors of choices of which one is written.
-use Rattle.std.proofs.Common.{◌≡◌, ◌∙◌, ◌<◌, ℕ, zero, suc, List, [], ◌∷◌, set, length, get_or, Vec, refl, sym, ap, arith}
+use Rattle.std.proofs.Common.{◌≡◌, ◌∙◌, ◌<◌, ℕ, zero, suc, List, [], ◌∷◌, ◌++◌, set, length, get_or, Vec, refl, sym, ap, arith}
 use Rattle.std.specs.declared.alloc.Global.{Global}
 use Rattle.std.proofs.lemmas.List.{map-set, get_or-map}
 use Rattle.sl_types.specs.declared.kinds.Entry.{Entry}
@@ -27,3 +27,8 @@ pub list_kept : (lists : List (Vec Entry Global)) (app : ℕ) (new d : Vec Entry
 list_kept lists app new d lt same =
     let wide : app < length (contents lists) = omega (arith, lt, length-contents lists) in
     list_written lists app new d (λ es. es) lt same ∙ set_same (contents lists) app [] wide
+
+-- one vector more
+pub contents_push : (lists : List (Vec Entry Global)) (list : Vec Entry Global) → contents (lists ++ list ∷ []) ≡ contents lists ++ list.items ∷ []
+contents_push [] list = refl
+contents_push (l ∷ ls) list = ap (λ (es : List (List Entry)). l.items ∷ es) (contents_push ls list)
