@@ -1,11 +1,11 @@
-//! Clears a round of admissions, or checks a published result, from the command line.
+//! Clears a round of admissions, amends one, or checks a published result, from the command line.
 #![tactic(auto)]
 
 ghost use Rattle.std.specs.Prelude.{◌≡◌, ◌⊎◌, ◌↔◌};
 ghost use Rattle.std.specs.Process.{exit_status};
 ghost use Rattle.sl_io.specs.Sink.{RoseIn};
 ghost use Rattle.sl_run.specs.Run.{CarriesOutUntold, EndsUntold};
-ghost use Rattle.sl_run.specs.Words.{texts_of, AreNoCommand, IsCheck, IsDemo};
+ghost use Rattle.sl_run.specs.Words.{texts_of, AreNoCommand, IsAmend, IsDemo, IsJudging};
 
 use sl_desk::OpenGate;
 use sl_io::{FileShelf, OutSink, Sink};
@@ -35,7 +35,8 @@ fn carry_out<R: Files + AllocGlobal + Threads + Sync, O: Sink, E: Sink>(
     ensures words { (exit_status result ≡ 2) ↔ AreNoCommand (texts_of words.now) }
     ensures carried_out { let carried_out = CarriesOutUntold (texts_of words.now) in
         exit_status result ≡ 0 → carried_out (O.output out.old) (O.output out.new) }
-    ensures judged { exit_status result ≡ 1 → IsCheck (texts_of words.now) }
+    ensures judged { exit_status result ≡ 1 → IsJudging (texts_of words.now) }
+    ensures unproved { exit_status result ≡ 1 → IsAmend (texts_of words.now) → out.new ≡ out.old }
     ensures nothing { let status = exit_status result in
         (status ≡ 2) ⊎ (status ≡ 3) ⊎ (status ≡ 4) → out.new ≡ out.old }
     ensures demo { let status = exit_status result in

@@ -63,4 +63,5 @@ abbrev pub amended : DraftMarket → NamedMarket
 amended draft =
     let named = draft.named in
     let lists = marked draft.present named.market.lists in
-    with_codes (record named.market { lists = lists }) named.pool_codes named.prog_codes (marked draft.present named.app_codes)
+    with_codes (record named.market { lists = lists }) named.pool_codes named.prog_codes
+    (marked draft.present named.app_codes)

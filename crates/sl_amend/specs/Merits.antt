@@ -62,7 +62,8 @@ is_contradicted trees choices e = list_any (λ f. in_one_tree trees e f && not (
 -- more choices have the number of a choice than those of one applicant
 abbrev pub is_held_beyond : Merits → List Entry → Entry → Bool
 is_held_beyond merits choices e =
-    passes (λ key. nat_lt (count_in merits.trees.items key choices) (held_at merits key)) (merit_key merits.trees.items e)
+    passes (λ key. nat_lt (count_in merits.trees.items key choices) (held_at merits key))
+    (merit_key merits.trees.items e)
 
 -- no choice of these, which are those of one applicant, is in a conflict
 abbrev pub is_in_none : Merits → List Entry → Bool

@@ -30,7 +30,8 @@ abbrev pub programmes : Merits → ℕ
 programmes merits = length merits.trees.items
 
 -- the lists of applicants are in order, and what is counted is counted over them
-pub record IsCounted (merits : Merits) (lists : List (List Entry)) (present : List Bool) (applicants applications : ℕ) : Type 0 where
+pub record IsCounted (merits : Merits) (lists : List (List Entry)) (present : List Bool)
+    (applicants applications : ℕ) : Type 0 where
   pub each : length present ≡ length lists
   pub in_order : list_all (is_list (programmes merits)) lists ≡ true
   pub present_count : applicants ≡ count_by (λ is_here. is_here) present

@@ -1,5 +1,4 @@
 ghost use Rattle.std.specs.Prelude.{◌≡◌, length, IfOk};
-ghost use Rattle.sl_types.specs.Market.{market_of};
 ghost use Rattle.sl_types.specs.Valid.{IsValid};
 ghost use Rattle.sl_amend.specs.Amended.{IsAmended, AreOrigins};
 ghost use Rattle.sl_amend.specs.DraftMarket.{amended};
@@ -11,25 +10,8 @@ use crate::opening::copy_codes;
 use crate::present::{present_codes, present_lists, present_origins};
 use crate::register::Register;
 use sl_instance::Named;
-use sl_types::{AppId, Entry, Instance, InstanceError, OutOfMemory, Pool, PoolId};
+use sl_types::{AppId, Instance, OutOfMemory};
 use std::alloc::Global;
-
-// The instance of lists of which none of the rules of `Unfit` fails.
-fn fit_instance(
-    alloc: Global,
-    pools: Vec<Pool>,
-    progs: Vec<PoolId>,
-    lists: Vec<Vec<Entry>>,
-) -> Result<Instance, OutOfMemory>
-    requires { IsValid (market_of pools progs lists) }
-    ensures { IfOk result (λ i. i ≡ market_of pools progs lists) }
-{
-    match Instance::new(alloc, pools, progs, lists) {
-        Ok(instance) => Ok(instance),
-        Err(InstanceError::OutOfMemory) => Err(OutOfMemory),
-        Err(InstanceError::Unfit(_)) => unreachable!(),
-    }
-}
 
 impl Register {
     // The instance of the applicants who are present, which breaks no rule.
@@ -41,7 +23,7 @@ impl Register {
         let pools = Vec::from_slice(alloc, &self.pools)?;
         let progs = Vec::from_slice(alloc, &self.progs)?;
         let lists = present_lists(alloc, &self.roll)?;
-        fit_instance(alloc, pools, progs, lists)
+        Instance::of_valid(alloc, pools, progs, lists)
     }
 
     /// The amended instance, where the rows of a file without a fault led here from an instance.

@@ -5,9 +5,10 @@ use Rattle.std.specs.Option.{option_or}
 use Rattle.std.proofs.lemmas.Bool.{cases_Bool, leb-true}
 use Rattle.sl_types.specs.declared.kinds.TheConstants.{MAX_LIST, MAX_PLACE, MAX_SCORE}
 use Rattle.sl_codes.specs.declared.faults.Cause.{Cause}
+use Rattle.sl_codes.specs.declared.faults.RowError.{RowError}
 use Rattle.sl_codes.specs.Codes.{has_code, number_of}
 use Rattle.sl_codes.specs.Fields.{number_of_field, number_within, number_in}
-use Rattle.sl_codes.specs.Faults.{number_cause}
+use Rattle.sl_codes.specs.Faults.{number_cause, IsWrong}
 use Rattle.sl_codes.specs.Records.{Record, field_of}
 use Rattle.sl_choices.specs.declared.choices.ChoiceRow.{ChoiceRow}
 use Rattle.sl_choices.specs.Choices.{number_among, list_cause, place_cause, prog_cause}
@@ -37,8 +38,12 @@ prog_right n progs field own number known free = rw (← number, ← known, free
 pub later_cause : {A : Type 0} (a b : Option A) → a ≡ None → option_or a b ≡ b
 later_cause a b none = rw none refl
 
-pub first_cause : {A : Type 0} (a b : Option A) (x : A) → a ≡ Some x → option_or a b ≡ Some x
-first_cause a b x some = rw some refl
+wrong_later : (a b : Option Cause) (e : RowError) → a ≡ None → IsWrong b e → IsWrong (option_or a b) e
+wrong_later a b e none h = rw none h
+
+wrong_first : (a b : Option Cause) (e : RowError) → IsWrong a e → IsWrong (option_or a b) e
+wrong_first a b (RowError.Bad found) h = rw h refl
+wrong_first a b RowError.OutOfMemory h = tt
 
 -- a list that isn't full
 short_list : (n : ℕ) → n < MAX_LIST → list_cause n ≡ None
@@ -50,13 +55,13 @@ short_list n short = let no = not_above MAX_LIST n short in rw no refl
       | inr e ↦ e
     ]
 
-pub own_prog : (progs : List (List ℕ)) (own : List ChoiceRow) (row : Record) (cause : Cause) → length own < MAX_LIST
+pub own_prog : (progs : List (List ℕ)) (own : List ChoiceRow) (row : Record) (e : RowError) → length own < MAX_LIST
     → place_cause (takes_place (number_in (field_of row 1)) own) (field_of row 1) ≡ None
-    → prog_cause progs (takes_prog (number_among progs (field_of row 2)) own) (field_of row 2) ≡ Some cause → own_cause progs own row ≡ Some cause
-own_prog progs own row cause short place prog =
-    later_cause (list_cause (length own)) _ (short_list (length own) short)
-    ∙ later_cause (place_cause (takes_place (number_in (field_of row 1)) own) (field_of row 1)) _ place
-    ∙ first_cause (prog_cause progs (takes_prog (number_among progs (field_of row 2)) own) (field_of row 2)) _ cause prog
+    → IsWrong (prog_cause progs (takes_prog (number_among progs (field_of row 2)) own) (field_of row 2)) e → IsWrong (own_cause progs own row) e
+own_prog progs own row e short place prog =
+    wrong_later (list_cause (length own)) _ e (short_list (length own) short)
+    (wrong_later (place_cause (takes_place (number_in (field_of row 1)) own) (field_of row 1)) _ e place
+    (wrong_first (prog_cause progs (takes_prog (number_among progs (field_of row 2)) own) (field_of row 2)) _ e prog))
 
 pub own_score : (progs : List (List ℕ)) (own : List ChoiceRow) (row : Record) (cause : Option Cause) → length own < MAX_LIST
     → place_cause (takes_place (number_in (field_of row 1)) own) (field_of row 1) ≡ None

@@ -2,6 +2,7 @@ mod Fields
 pub mod Kept
 mod Links
 mod Lists
+mod Marking
 mod Numbers
 mod Records
 pub mod Whole

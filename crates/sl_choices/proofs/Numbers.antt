@@ -1,27 +1,21 @@
 -- Records by the rows of their applicant.
-use Rattle.std.proofs.Common.{◌≡◌, ◌∙◌, sym, refl, ℕ, Bool, nat_eq, List, reverse, Some, None}
+use Rattle.std.proofs.Common.{◌≡◌, ◌∙◌, sym, refl, ℕ, Bool, List, reverse, Some, None}
 use Rattle.std.specs.List.{list_any}
-use Rattle.std.proofs.lemmas.List.{length-reverse}
 use Rattle.std.proofs.lemmas.List.Sorted.{list_any-IsPermutation, IsPermutation-reverse}
 use Rattle.sl_codes.specs.Codes.{number_of, with_code}
 use Rattle.sl_codes.specs.Records.{Record, field_of}
-use Rattle.sl_codes.specs.Fields.{number_in}
 use Rattle.sl_choices.specs.declared.choices.ChoiceRow.{ChoiceRow}
 use Rattle.sl_choices.specs.Choices.{applicant_cause, number_among}
 use Rattle.sl_choices.specs.Rows.{rows_of_app, own_cause, row_cause}
 use Rattle.sl_choices.proofs.Fields.{later_cause}
 
-any_reversed : (p : ChoiceRow → Bool) (own : List ChoiceRow) → list_any p (reverse own) ≡ list_any p own
+-- rows are tested alike from the last to the first
+pub any_reversed : (p : ChoiceRow → Bool) (own : List ChoiceRow) → list_any p (reverse own) ≡ list_any p own
 any_reversed p own = sym (list_any-IsPermutation p own (reverse own) (IsPermutation-reverse own))
 
--- the rows of an applicant tell the same from the last to the first
-own_reversed : (progs : List (List ℕ)) (own : List ChoiceRow) (row : Record) → own_cause progs (reverse own) row ≡ own_cause progs own row
-own_reversed progs own row =
-    rw (length-reverse own, any_reversed (λ other. nat_eq other.place (number_in (field_of row 1))) own, any_reversed (λ other. nat_eq other.prog.0 (number_among progs (field_of row 2))) own) refl
-
 -- what is wrong with a record of an applicant in whose field nothing is
-pub row_by_own : (progs apps : List (List ℕ)) (rows own : List ChoiceRow) (row : Record) (app : ℕ) → applicant_cause apps (field_of row 0) ≡ None
-    → number_of (with_code apps (field_of row 0)) (field_of row 0) ≡ Some app → own ≡ reverse (rows_of_app app rows) → row_cause progs apps rows row ≡ own_cause progs own row
-row_by_own progs apps rows own row app right number is =
+pub row_by_own : (progs apps : List (List ℕ)) (rows : List ChoiceRow) (row : Record) (app : ℕ) → applicant_cause apps (field_of row 0) ≡ None
+    → number_of (with_code apps (field_of row 0)) (field_of row 0) ≡ Some app → row_cause progs apps rows row ≡ own_cause progs (rows_of_app app rows) row
+row_by_own progs apps rows row app right number =
     later_cause (applicant_cause apps (field_of row 0)) (own_cause progs (rows_of_app (number_among (with_code apps (field_of row 0)) (field_of row 0)) rows) row) right
-    ∙ rw number (sym (rw is (own_reversed progs (rows_of_app app rows) row)))
+    ∙ rw number refl

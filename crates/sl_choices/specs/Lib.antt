@@ -1,3 +1,4 @@
 pub mod Chains
 pub mod Choices
+pub mod Marks
 pub mod Rows

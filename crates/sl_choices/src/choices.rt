@@ -72,9 +72,9 @@ fn read_draft(alloc: Global, bytes: &[u8], progs: &Codes) -> Result<Draft, ReadE
     ensures right { let fault = first_fault (choice_form progs.now) (records_of bytes.now) in
         OnOk result (fault ≡ None) }
     ensures draft { IfOk result
-        (λ draft. IsDraft progs.now (rows_of bytes.now) draft.codes draft.chains.rows.items) }
-    ensures kept { IfOk result
-        (λ draft. IsChoiceList (record { codes = draft.codes; rows = draft.chains.rows.items })) }
+        (λ draft. IsDraft progs.now (rows_of bytes.now) draft.codes draft.table.chains.rows.items) }
+    ensures kept { IfOk result (λ draft. let rows = draft.table.chains.rows.items in
+        IsChoiceList (record { codes = draft.codes; rows = rows })) }
     ensures refused { let fault = first_fault (choice_form progs.now) (records_of bytes.now) in
         IfErr result (IsFirst fault) }
 {
@@ -83,7 +83,7 @@ fn read_draft(alloc: Global, bytes: &[u8], progs: &Codes) -> Result<Draft, ReadE
     read_header(&mut records, &mut row, Table::Applications, &HEADER)?;
     let mut draft = Draft::new(alloc);
     'rows: while records.next(&mut row)? {
-        let before = draft.chains.rows.len();
+        let before = draft.table.chains.rows.len();
         if let Err(e) = draft.take(progs, &row) {
             return Err(e.after(Table::Applications, before));
         }
@@ -109,11 +109,11 @@ pub fn read_choices(
 {
     let Draft {
         codes,
-        chains,
+        table,
         own: _,
     } = read_draft(alloc, bytes, progs.codes())?;
     Ok(ChoiceTable {
         codes,
-        rows: chains.rows,
+        rows: table.chains.rows,
     })
 }

@@ -4,6 +4,8 @@
 mod chains;
 mod choices;
 mod draft;
+mod marked_rows;
+mod marks;
 mod rows;
 
 pub use choices::{ChoiceRow, ChoiceTable, read_choices};

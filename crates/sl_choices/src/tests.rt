@@ -28,6 +28,15 @@ fn read(alloc: Global, programmes: &str, text: &[u8]) -> Result<ChoiceTable, Rea
     read_choices(alloc, text, &pools, &progs)
 }
 
+// So many programmes `g0`, `g1` and on, whose numbers are those in their codes.
+fn numbered(alloc: Global, programmes: u32) -> Result<String, AllocError> {
+    let mut text = String::from_str(alloc, "programme,pool\n")?;
+    for number in 0..programmes {
+        write!(text, "g{number},B\n")?;
+    }
+    Ok(text)
+}
+
 fn refusal(alloc: Global, header: &str, rows: &[u8]) -> Result<Option<ReadError>, AllocError> {
     let text = joined(alloc, header, rows)?;
     Ok(read(alloc, PROGRAMMES, &text).err())
@@ -142,11 +151,8 @@ fn no_choices(rt: HostRuntime) -> Result<(), Fail> {
 
 #[test]
 fn longest_list(rt: HostRuntime) -> Result<(), Fail> {
-    let mut programmes = String::from_str(rt.alloc(), "programme,pool\n")?;
+    let programmes = numbered(rt.alloc(), 65)?;
     let mut text = String::from_str(rt.alloc(), CHOICES)?;
-    for row in 0..65 {
-        write!(programmes, "g{row},B\n")?;
-    }
     for row in 0..64 {
         write!(text, "x,{},g{row},1\ny{row},1,g0,1\n", row + 1)?;
     }
@@ -156,5 +162,25 @@ fn longest_list(rt: HostRuntime) -> Result<(), Fail> {
     text.push_str("x,0,q,x\n")?;
     let found = read(rt.alloc(), &programmes, text.as_bytes()).err();
     assert_eq!(rt; found, fault(130, Cause::ListTooLong));
+    Ok(())
+}
+
+// The places 1 and 33 share a bit of an applicant's marks, and so do the programmes 0 and 32.
+#[test]
+fn shared_bits(rt: HostRuntime) -> Result<(), Fail> {
+    let programmes = numbered(rt.alloc(), 33)?;
+    for (row, wanted) in [
+        ("x,65,g1,1\n", None),
+        ("x,1,g1,1\n", fault(4, Cause::RepeatedPlace)),
+        ("x,33,g1,1\n", fault(4, Cause::RepeatedPlace)),
+        ("x,2,g0,1\n", fault(4, Cause::RepeatedChoice)),
+        ("x,2,g32,1\n", fault(4, Cause::RepeatedChoice)),
+    ] {
+        let mut text = String::from_str(rt.alloc(), CHOICES)?;
+        text.push_str("x,1,g0,1\nx,33,g32,1\n")?;
+        text.push_str(row)?;
+        let found = read(rt.alloc(), &programmes, text.as_bytes()).err();
+        assert_eq!(rt; found, wanted, "{row}");
+    }
     Ok(())
 }

@@ -8,7 +8,7 @@ use Rattle.sl_contend.specs.Entering.{rows_of, HoldFilled}
 use Rattle.sl_contend.specs.Rows.{AreCut, numbers_in}
 
 -- two facts of an Ok give a third
-if_ok_both : {X Y : Type 0} (r : Result X Y) (P Q R : X → Type 0) → ((x : X) → P x → Q x → R x) → IfOk r P → IfOk r Q → IfOk r R
+pub if_ok_both : {X Y : Type 0} (r : Result X Y) (P Q R : X → Type 0) → ((x : X) → P x → Q x → R x) → IfOk r P → IfOk r Q → IfOk r R
 if_ok_both (Ok x) P Q R f p q = f x p q
 if_ok_both (Err y) P Q R f p q = tt
 

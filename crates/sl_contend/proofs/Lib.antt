@@ -12,3 +12,5 @@ pub mod Leading
 pub mod Held
 pub mod Tables
 pub mod Lawful
+pub mod Halves
+pub mod Ranged

@@ -86,3 +86,9 @@ number_of_pool pool = pool.0
 pub record HoldEach {A : Type 0} (number : A → ℕ) (market : Market) (f : ℕ → List ℕ) (rows : Rows A) : Type 0 where
   pub cut : AreCut (length market.pools) rows
   pub each : numbers_of number (length market.pools) rows ≡ each_pool market f
+
+-- the rows of who contends for each pool, of which pools feed it, and of which it feeds
+pub record AreListed (market : Market) (lists : Rows AppId × Rows PoolId × Rows PoolId) : Type 0 where
+  pub of : HoldEach number_of_app market (contenders_of market) lists.0
+  pub feeds : HoldEach number_of_pool market (feeding market) lists.1
+  pub fed : HoldEach number_of_pool market (fed_by market) lists.2

@@ -1,14 +1,17 @@
 ghost use Rattle.std.specs.Prelude.{◌≡◌, ◌<◌, All, length, slice_get, IfOk};
 ghost use Rattle.std.specs.List.Sorted.{IsPermutation, IsSortedBy};
-ghost use Rattle.sl_contend.specs.Contention.{contention_of, MadeFor, contenders_of, feeding, fed_by, numbers_of_apps, numbers_of_pools};
-ghost use Rattle.sl_contend.specs.Offers.{choices_in, comes_before, IsChoice};
+ghost use Rattle.sl_contend.specs.Contention.{contention_of, MadeFor, contenders_of, feeding, fed_by, numbers_of_apps, numbers_of_pools, AreListed};
+ghost use Rattle.sl_contend.specs.Offers.{choices_in, comes_before, HoldOffers, IsChoice};
+ghost use Rattle.sl_contend.specs.Rows.{AreCut};
 
+use crate::listing::Lists;
 use crate::offer::Offer;
 use crate::rows::{Rows, row};
-use crate::{contention, offering};
+use crate::{contention, listing, offering};
 use sl_types::{AppId, Instance, OutOfMemory, PoolId};
-use std::alloc::Global;
+use std::alloc::{AllocError, Global};
 use std::marker::Model;
+use std::thread::{Threads, join};
 
 /// The choices in each pool of an instance, who has one, and which pools feed which. Contracts see the four
 /// lists of each pool, the last three as numbers.
@@ -41,6 +44,36 @@ impl Contenders {
         let of = contention::contenders(alloc, instance)?;
         let fed = contention::fed(alloc, instance, &of)?;
         let feeds = contention::feeds(alloc, instance, &fed)?;
+        Ok(Contenders {
+            pools: instance.pools(),
+            offers,
+            of,
+            feeds,
+            fed,
+        })
+    }
+
+    /// The contenders of an instance's pools, and which of its pools feed which, made in parallel: the choices
+    /// beside the other lists, and put in order by pieces of the pools.
+    pub fn new_in_parallel(
+        rt: &(impl Threads + Sync),
+        alloc: Global,
+        instance: &Instance,
+    ) -> Result<Contenders, OutOfMemory>
+        ensures { IfOk result (λ c. c ≡ contention_of instance.now) }
+    {
+        let (lists, offers) = join(
+            rt,
+            || -> Result<Lists, AllocError>
+                ensures { IfOk result (AreListed instance.entry.now) }
+            { listing::lists(rt, alloc, instance) },
+            || -> Result<Rows<Offer>, AllocError>
+                ensures { IfOk result (AreCut (length instance.entry.now.pools))
+                    × IfOk result (HoldOffers instance.entry.now) }
+            { offering::offers_in_parallel(rt, alloc, instance) },
+        );
+        let offers = offers?;
+        let (of, feeds, fed) = lists?;
         Ok(Contenders {
             pools: instance.pools(),
             offers,

@@ -5,24 +5,40 @@ ghost use Rattle.sl_types.specs.Market.{list_of, lies_in};
 ghost use Rattle.sl_laws.specs.Stable.{is_choice_in, leads, feeds};
 ghost use Rattle.sl_contend.specs.Contention.{contenders_of, is_lead, feeding, fed_by, number_of_app, number_of_pool, HoldEach};
 ghost use Rattle.sl_contend.specs.Entering.{EntersPool, up_to_last};
+ghost use Rattle.sl_contend.specs.Pieces.{HoldContenders, HoldFed};
 
 use crate::entering;
 use crate::filling::Filling;
-use crate::rows::{Rows, row};
+use crate::rows::{Placed, Rows, bucket, row};
 use sl_types::{AppId, Entry, Instance, MAX_LIST, PoolId};
 use std::alloc::{AllocError, Global};
+
+// The applicants of a range, each in every pool that they have a choice in.
+pub fn contenders_among(
+    alloc: Global,
+    instance: &Instance,
+    first: usize,
+    end: usize,
+) -> Result<Vec<Placed<AppId>>, AllocError>
+    requires order { first ≤ end }
+    requires within { end ≤ length instance.now.lists }
+    ensures { IfOk result (HoldContenders instance.now first end) }
+{
+    let _applicants = instance.applicants();
+    let mut rows = entering::empty_rows(alloc, instance.pools())?;
+    for number in first..end {
+        let app = AppId(number as u32);
+        entering::enter_choices(instance, &mut rows, instance.list(app), app)?;
+    }
+    Ok(rows.into_placed())
+}
 
 // For each pool the applicants who have a choice in it.
 pub fn contenders(alloc: Global, instance: &Instance) -> Result<Rows<AppId>, AllocError>
     ensures { IfOk result (HoldEach number_of_app instance.now (contenders_of instance.now)) }
 {
-    let count = instance.pools();
-    let mut rows = entering::empty_rows(alloc, count)?;
-    for number in 0..instance.applicants() {
-        let app = AppId(number as u32);
-        entering::enter_choices(instance, &mut rows, instance.list(app), app)?;
-    }
-    entering::finish(alloc, &rows)
+    let placed = contenders_among(alloc, instance, 0, instance.applicants())?;
+    bucket(alloc, instance.pools(), &placed)
 }
 
 // Whether a choice is in a pool.
@@ -72,18 +88,35 @@ fn enter_feeders(
     Ok(())
 }
 
+// The pools of a range, each in every other pool that feeds it.
+pub fn fed_among(
+    alloc: Global,
+    instance: &Instance,
+    of: &Rows<AppId>,
+    first: usize,
+    end: usize,
+) -> Result<Vec<Placed<PoolId>>, AllocError>
+    requires of { HoldEach number_of_app instance.now (contenders_of instance.now) of.now }
+    requires order { first ≤ end }
+    requires within { end ≤ length instance.now.pools }
+    ensures { IfOk result (HoldFed instance.now first end) }
+{
+    let count = instance.pools();
+    let mut rows = entering::empty_rows(alloc, count)?;
+    for number in first..end {
+        let pool = PoolId(number as u32);
+        enter_feeders(instance, &mut rows, row(of, count, pool), pool)?;
+    }
+    Ok(rows.into_placed())
+}
+
 // For each pool the pools that it feeds.
 pub fn fed(alloc: Global, instance: &Instance, of: &Rows<AppId>) -> Result<Rows<PoolId>, AllocError>
     requires { HoldEach number_of_app instance.now (contenders_of instance.now) of.now }
     ensures { IfOk result (HoldEach number_of_pool instance.now (fed_by instance.now)) }
 {
-    let count = instance.pools();
-    let mut rows = entering::empty_rows(alloc, count)?;
-    for number in 0..count {
-        let pool = PoolId(number as u32);
-        enter_feeders(instance, &mut rows, row(of, count, pool), pool)?;
-    }
-    entering::finish(alloc, &rows)
+    let placed = fed_among(alloc, instance, of, 0, instance.pools())?;
+    bucket(alloc, instance.pools(), &placed)
 }
 
 // Enters a pool into each row of a list of pools.

@@ -5,11 +5,14 @@ mod contenders;
 mod contention;
 mod entering;
 mod filling;
+mod listing;
 mod offer;
 mod offering;
+mod pieces;
 mod rows;
 mod rule;
 mod scratch;
+mod sorting;
 mod theorems;
 
 pub use contenders::Contenders;

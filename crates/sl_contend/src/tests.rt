@@ -139,14 +139,19 @@ fn two_programmes_in_one_pool(rt: HostRuntime) -> Result<(), Fail> {
     Ok(())
 }
 
+// x, y and z with equal scores in A and in B.
+fn tied(alloc: Global) -> Result<Instance, Fail> {
+    let x = vec![in alloc; choice(1, 2, 7), choice(2, 0, 5), choice(3, 1, 5)]?;
+    let y = vec![in alloc; choice(1, 1, 5), choice(2, 0, 6), choice(3, 2, 7)]?;
+    let z = vec![in alloc; choice(1, 0, 5)]?;
+    instance(alloc, 2, vec![in alloc; A, A, B]?, vec![in alloc; x, y, z]?)
+}
+
 // Equal scores stand by applicant, and those of one applicant by place on the list; each pool has its own.
 #[test]
 fn tied_choices(rt: HostRuntime) -> Result<(), Fail> {
     let alloc = rt.alloc();
-    let x = vec![in alloc; choice(1, 2, 7), choice(2, 0, 5), choice(3, 1, 5)]?;
-    let y = vec![in alloc; choice(1, 1, 5), choice(2, 0, 6), choice(3, 2, 7)]?;
-    let z = vec![in alloc; choice(1, 0, 5)]?;
-    let instance = instance(alloc, 2, vec![in alloc; A, A, B]?, vec![in alloc; x, y, z]?)?;
+    let instance = tied(alloc)?;
     let contenders = Contenders::new(alloc, &instance)?;
     offered(
         &rt,
@@ -168,6 +173,42 @@ fn tied_choices(rt: HostRuntime) -> Result<(), Fail> {
         B,
         &[offer(7, 0, 0), offer(7, 1, 2)],
     );
+    Ok(())
+}
+
+// Two makings have the same lists for a pool.
+fn alike(
+    rt: &impl Abort,
+    instance: &Instance,
+    first: &Contenders,
+    second: &Contenders,
+    pool: PoolId,
+)
+    requires first { first.now ≡ contention_of instance.now }
+    requires second { second.now ≡ contention_of instance.now }
+{
+    assert!(rt; (pool.0 as usize) < instance.pools());
+    assert_eq!(rt; first.offers(pool), second.offers(pool));
+    assert_eq!(rt; first.of(pool), second.of(pool));
+    assert_eq!(rt; first.feeds(pool), second.feeds(pool));
+    assert_eq!(rt; first.fed(pool), second.fed(pool));
+}
+
+#[test]
+fn made_in_parallel(rt: HostRuntime) -> Result<(), Fail> {
+    let alloc = rt.alloc();
+    let instance = tied(alloc)?;
+    let contenders = Contenders::new(alloc, &instance)?;
+    let parallel = Contenders::new_in_parallel(&rt, alloc, &instance)?;
+    offered(
+        &rt,
+        &instance,
+        &parallel,
+        B,
+        &[offer(7, 0, 0), offer(7, 1, 2)],
+    );
+    alike(&rt, &instance, &contenders, &parallel, A);
+    alike(&rt, &instance, &contenders, &parallel, B);
     Ok(())
 }
 

@@ -6,7 +6,7 @@ mod pools;
 mod round;
 mod theorems;
 
-pub use round::generate;
+pub use round::{generate, generate_in_parallel};
 pub use theorems::{generated_fits, generated_sizes};
 
 #[cfg(test)]

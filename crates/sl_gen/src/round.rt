@@ -1,40 +1,50 @@
-ghost use Rattle.std.specs.Prelude.{◌≡◌, ◌≤◌, IfOk};
-ghost use Rattle.sl_types.specs.Market.{market_of};
-ghost use Rattle.sl_types.specs.Valid.{IsValid};
+ghost use Rattle.std.specs.Prelude.{◌≡◌, ◌≤◌, map, IfOk};
+ghost use Rattle.std.specs.List.{range_with_len};
+ghost use Rattle.sl_gen.specs.Choices.{choices_of};
+ghost use Rattle.sl_gen.specs.Pools.{prog_count};
 ghost use Rattle.sl_gen.specs.Round.{generated};
 
-use crate::choices::lists;
+use crate::choices::{lists, lists_in_parallel};
 use crate::pools::{pool_count, pools, programmes};
-use sl_types::{Entry, Instance, InstanceError, MAX_APPLICANTS, OutOfMemory, Pool, PoolId};
+use sl_types::{Entry, Instance, MAX_APPLICANTS, OutOfMemory};
 use std::alloc::Global;
+use std::thread::Threads;
 
-// The instance of lists of which none of the rules of `Unfit` fails.
-fn fit_instance(
-    alloc: Global,
-    pools: Vec<Pool>,
-    progs: Vec<PoolId>,
-    lists: Vec<Vec<Entry>>,
-) -> Result<Instance, OutOfMemory>
-    requires { IsValid (market_of pools progs lists) }
-    ensures { IfOk result (λ i. i ≡ market_of pools progs lists) }
-{
-    match Instance::new(alloc, pools, progs, lists) {
-        Ok(instance) => Ok(instance),
-        Err(InstanceError::OutOfMemory) => Err(OutOfMemory),
-        Err(InstanceError::Unfit(_)) => unreachable!(),
-    }
-}
-
-/// The generated round of `n` applicants, at least one and at most `MAX_APPLICANTS`. It is refused
-/// for want of memory alone.
-pub fn generate(alloc: Global, n: u32) -> Result<Instance, OutOfMemory>
-    requires at_least_one { 1 ≤ n }
+// The round of so many applicants, who have these lists. No rule of an instance fails in it, by
+// `generated_fits`, so none is tested.
+fn round_with(alloc: Global, n: u32, lists: Vec<Vec<Entry>>) -> Result<Instance, OutOfMemory>
     requires few { n ≤ MAX_APPLICANTS }
+    requires lists { let each = map (choices_of (prog_count n)) (range_with_len 0 n) in
+        map (λ l. l.items) lists.items ≡ each }
     ensures { IfOk result (λ i. i ≡ generated n) }
 {
     let count = pool_count(n);
     let pools = pools(alloc, count)?;
     let progs = programmes(alloc, 2 * count)?;
-    let lists = lists(alloc, 2 * count, n)?;
-    fit_instance(alloc, pools, progs, lists)
+    Instance::of_valid(alloc, pools, progs, lists)
+}
+
+/// The generated round of `n` applicants, at least one and at most `MAX_APPLICANTS`. It is refused for
+/// want of memory alone.
+pub fn generate(alloc: Global, n: u32) -> Result<Instance, OutOfMemory>
+    requires at_least_one { 1 ≤ n }
+    requires few { n ≤ MAX_APPLICANTS }
+    ensures { IfOk result (λ i. i ≡ generated n) }
+{
+    let lists = lists(alloc, 2 * pool_count(n), n)?;
+    round_with(alloc, n, lists)
+}
+
+/// The same, with the lists made by pieces of the applicants in parallel.
+pub fn generate_in_parallel(
+    rt: &(impl Threads + Sync),
+    alloc: Global,
+    n: u32,
+) -> Result<Instance, OutOfMemory>
+    requires at_least_one { 1 ≤ n }
+    requires few { n ≤ MAX_APPLICANTS }
+    ensures { IfOk result (λ i. i ≡ generated n) }
+{
+    let lists = lists_in_parallel(rt, alloc, 2 * pool_count(n), n)?;
+    round_with(alloc, n, lists)
 }

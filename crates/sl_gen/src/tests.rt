@@ -84,3 +84,13 @@ fn lists_of_a_thousand(rt: HostRuntime) -> Result<(), Fail> {
     assert_eq!(rt; round.list(AppId(811)), later.as_slice());
     Ok(())
 }
+
+#[test]
+fn made_in_parallel(rt: HostRuntime) -> Result<(), Fail> {
+    let round = generate_in_parallel(&rt, rt.alloc(), 1_000)?;
+    assert_eq!(rt; (round.progs(), round.applicants()), (48, 1_000));
+    assert_eq!(rt; round.pool_of(ProgId(47)), PoolId(23));
+    let later = [choice(1, 39, 374), choice(2, 8, 503_270)];
+    assert_eq!(rt; round.list(AppId(811)), later.as_slice());
+    Ok(())
+}

@@ -13,7 +13,7 @@ use crate::causes::merit_fault;
 use sl_choices::{ChoiceRow, ChoiceTable};
 use sl_codes::ReadError;
 use sl_pools::{PoolTable, ProgTable};
-use sl_types::{Entry, Instance, InstanceError, Pool, PoolId};
+use sl_types::{Entry, Instance, Pool, PoolId};
 use std::alloc::{AllocError, Global};
 
 // The choice of a row.
@@ -101,7 +101,7 @@ fn sorted_choices(
     Ok(lists)
 }
 
-// The instance of lists of which none of the rules of `Unfit` fails.
+// The instance of lists of which it is known that none of the rules of `Unfit` fails.
 fn fit_instance(
     alloc: Global,
     pools: Vec<Pool>,
@@ -112,10 +112,9 @@ fn fit_instance(
     ensures made { IfOk result (λ i. i ≡ market_of pools progs lists) }
     ensures memory { IfErr result (λ e. e ≡ read_error.OutOfMemory) }
 {
-    match Instance::new(alloc, pools, progs, lists) {
+    match Instance::of_valid(alloc, pools, progs, lists) {
         Ok(instance) => Ok(instance),
-        Err(InstanceError::OutOfMemory) => Err(ReadError::OutOfMemory),
-        Err(InstanceError::Unfit(_)) => unreachable!(),
+        Err(_) => Err(ReadError::OutOfMemory),
     }
 }
 
@@ -160,6 +159,7 @@ pub fn assemble(
     let Ok(lists) = sorted_choices(alloc, app_codes.len(), &rows) else {
         return Err(ReadError::OutOfMemory);
     };
+    drop(rows);
     let instance = fit_instance(alloc, pools, progs, lists)?;
     Ok(Named::new(instance, pool_codes, prog_codes, app_codes))
 }

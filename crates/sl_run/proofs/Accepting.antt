@@ -173,6 +173,11 @@ module _ (shelf : Files) (rule : Rule) (t : TableNames) where
   one_more n file held here =
       let P = HoldsFor shelf rule n in All-append P (pools_file ∷ progs_file ∷ apps_file ∷ []) (file ∷ []) held (All-cons P file [] here (All-nil P))
 
+  -- and another one
+  pub two_more : (n : NamedMarket) (file other : File) → Hold shelf rule n (tables_and t (file ∷ [])).files → HoldsFor shelf rule n other → Hold shelf rule n (tables_and t (file ∷ other ∷ [])).files
+  two_more n file other held here =
+      let P = HoldsFor shelf rule n in All-append P (pools_file ∷ progs_file ∷ apps_file ∷ file ∷ []) (other ∷ []) held (All-cons P other [] here (All-nil P))
+
 rose_from : (a b now : ℕ) → a ≤ b → Rose b now → Rose a now
 rose_from a b now le rose = omega (arith, le, rose)
 
@@ -242,6 +247,27 @@ cause_on t more before after (Unreadable table) late cause = some_more t more
     (λ earlier file. (file.table ≡ table) × RoseOf before after file × (IsTold before → AreHeld before (letter_rule t.letter) earlier)) cause
 cause_on t more before after Unwritable late cause = absurd (true≢false (sym late))
 cause_on t more before after OutOfMemory late cause = tt
+
+-- one of four files is one of five, after the same
+some_further : (t : TableNames) (fourth fifth : File) (P : List File → File → Type 0) → SomeFile (tables_and t (fourth ∷ [])) P → SomeFile (tables_and t (fourth ∷ fifth ∷ [])) P
+some_further t fourth fifth P (zero, file, at, p) = (zero, file, at, p)
+some_further t fourth fifth P (suc zero, file, at, p) = (suc zero, file, at, p)
+some_further t fourth fifth P (suc (suc zero), file, at, p) = (suc (suc zero), file, at, p)
+some_further t fourth fifth P (suc (suc (suc zero)), file, at, p) = (suc (suc (suc zero)), file, at, p)
+some_further t fourth fifth P (suc (suc (suc (suc k))), file, at, p) = cc at
+
+-- a command with five files reads the first four as one that reads them alone
+pub cause_more : (t : TableNames) (fourth fifth : File) (before after : Files) (failure : Failure) → is_of_files failure ≡ true
+    → IsCause (tables_and t (fourth ∷ [])) before after failure → IsCause (tables_and t (fourth ∷ fifth ∷ [])) before after failure
+cause_more t fourth fifth before after Words late cause = cause
+cause_more t fourth fifth before after (Refused fault) late cause =
+    some_further t fourth fifth (λ earlier file. IsTold before → IsRefused before (letter_rule t.letter) earlier file fault) cause
+cause_more t fourth fifth before after (TooLong table) late cause =
+    some_further t fourth fifth (λ earlier file. (file.table ≡ table) × (IsTold before → IsTooLong before (letter_rule t.letter) earlier file)) cause
+cause_more t fourth fifth before after (Unreadable table) late cause = some_further t fourth fifth
+    (λ earlier file. (file.table ≡ table) × RoseOf before after file × (IsTold before → AreHeld before (letter_rule t.letter) earlier)) cause
+cause_more t fourth fifth before after Unwritable late cause = absurd (true≢false (sym late))
+cause_more t fourth fifth before after OutOfMemory late cause = tt
 
 -- a file that wasn't read is the cause of a failure of files
 pub file_late : (table : Table) (first : List ℕ → Option TableFault) (before after : Files) (name : List ℕ) (failure : Failure) → IsFileCause table first before after name failure → is_of_files failure ≡ true

@@ -1,24 +1,25 @@
 -- How a command ends, by what its files hold.
 use Rattle.std.proofs.Common.{◌≡◌, ◌∙◌, ℕ, List, [], ◌∷◌, take, length, refl, sym, ap, subst, inl, inr, arith, Some, None}
-use Rattle.std.specs.Prelude.{◌⊎◌, ◌↔◌, true, Option, Any, Result, Ok, Err, IfErr, IsErrOf}
+use Rattle.std.specs.Prelude.{◌⊎◌, ◌↔◌, true, Option, Any, Result, Ok, Err, IfErr, IfSome, IsErrOf, is_some, option_map, Vec}
+use Rattle.std.specs.declared.alloc.Global.{Global}
 use Rattle.std.proofs.lemmas.List.Elements.{All-take}
 use Rattle.sl_io.specs.Shelf.{Files}
 use Rattle.sl_io.specs.Sink.{Output, RoseIn}
 use Rattle.sl_check.specs.declared.verdict.Verdict.{Verdict}
 use Rattle.sl_check.specs.declared.verdict.Verdict.TheVariants.{Yes}
-use Rattle.sl_codes.specs.declared.faults.Table.TheVariants.{Results}
+use Rattle.sl_codes.specs.declared.faults.Table.TheVariants.{Results, Amendments}
 use Rattle.sl_codes.specs.declared.faults.TableFault.{TableFault}
 use Rattle.sl_instance.specs.NamedMarket.{NamedMarket}
 use Rattle.sl_run.specs.declared.failure.Failure.{Failure}
 use Rattle.sl_run.specs.declared.failure.Failure.TheVariants.{Words, Refused, TooLong, Unreadable, Unwritable, OutOfMemory}
-use Rattle.sl_run.specs.Words.{TableNames, Command, clear, check, watch, demo, File, file_of, command_of, inputs_of, letter_rule, tables_and, StandsAt, AreWordsOf, IsCheck, IsDemo, is_clearing, AreNoCommand}
+use Rattle.sl_run.specs.Words.{TableNames, Command, clear, check, watch, amend, print_table, demo, File, file_of, command_of, inputs_of, letter_rule, tables_and, StandsAt, AreWordsOf, IsAmend, IsDemo, IsJudging, is_clearing, AreNoCommand}
 use Rattle.sl_run.specs.Accepted.{IsTold, IsToldTo, HoldsFor, Hold, AreAccepted, IsRefused, IsTooLong, IsStop, fault_in}
 use Rattle.sl_run.specs.Causes.{RoseOf, RoseUpTo, IsCause, IsCauseOf, Refuses, Completes}
-use Rattle.sl_run.specs.Ending.{Ending, ending_of, status_of_verdict, EndsWith, IsQuiet}
+use Rattle.sl_run.specs.Ending.{Ending, ending_of, ending_in, ending_of_amendment, status_of_verdict, EndsWith, IsEnding}
 use Rattle.sl_floor.specs.Ending.{Closing}
-use Rattle.sl_run.specs.declared.ended.Ended.{Ended}
-use Rattle.sl_run.specs.Receipt.{AnswersReceipt, AnswerReceipt}
-use Rattle.sl_run.specs.Run.{IsCarriedOut, CarriesOut, EndQuietly, Ends}
+use Rattle.sl_run.specs.declared.done.Done.{Done}
+use Rattle.sl_run.specs.Receipt.{AnswersReceipt, AnswerReceipt, IsOfFloor, IsOfFloorFor}
+use Rattle.sl_run.specs.Run.{IsCarriedOut, CarriesOut, CanEndBy, Ends}
 use Rattle.sl_run.specs.Failures.{status_of}
 use Rattle.sl_run.proofs.Accepting.{same_text, same_fault}
 use Rattle.sl_run.proofs.Faultless.{accepted_of}
@@ -61,14 +62,18 @@ no_stop : (shelf : Files) (command : Command) (n : NamedMarket) (k : ℕ) (file 
     → IsStop shelf (inputs_of command).rule (take k (inputs_of command).files) file → ⊥
 no_stop shelf (clear w t) n k file at before here stop = not_stop shelf t [] n k file at before here stop
 no_stop shelf (check t document) n k file at before here stop = not_stop shelf t (file_of Results document ∷ []) n k file at before here stop
-no_stop shelf (watch looks w t) n k file at before here stop = not_stop shelf t [] n k file at before here stop
+no_stop shelf (watch k w t) n j file at before here stop = not_stop shelf t [] n j file at before here stop
+no_stop shelf (amend w t document a) n k file at before here stop = not_stop shelf t (file_of Results document ∷ file_of Amendments a ∷ []) n k file at before here stop
+no_stop shelf (print_table p t a) n k file at before here stop = not_stop shelf t (file_of Amendments a ∷ []) n k file at before here stop
 no_stop shelf (demo a w) n k file at before here stop = cc at
 
 -- where the files are told, they are to each command
 told_to : (shelf : Files) (command : Command) → IsTold shelf → IsToldTo shelf command
 told_to shelf (clear w t) told = told
 told_to shelf (check t document) told = told
-told_to shelf (watch looks w t) told = told
+told_to shelf (watch k w t) told = told
+told_to shelf (amend w t document a) told = told
+told_to shelf (print_table p t a) told = told
 told_to shelf (demo a w) told = tt
 
 -- where they are told to a command that has a file, they are told
@@ -76,6 +81,8 @@ told_with : (shelf : Files) (command : Command) (k : ℕ) (file : File) → Stan
 told_with shelf (clear w t) k file at told = told
 told_with shelf (check t document) k file at told = told
 told_with shelf (watch looks w t) k file at told = told
+told_with shelf (amend w t document a) k file at told = told
+told_with shelf (print_table p t a) k file at told = told
 told_with shelf (demo a w) k file at told = cc at
 
 -- where all files of a command are accepted, none is the first that isn't
@@ -139,42 +146,72 @@ module _ (words : List (List ℕ)) (before after : Files) where
       let (n, held) = accepted_of before command faultless in
       inr (failure_after command before after out_before out_after told n failure (subst (λ (d : Command). IsCause (inputs_of d) before after failure) same cause) output held)
 
-  pub completed : (out_before out_after : Output) (status : ℕ) → EndQuietly words status → Completes words before after out_before out_after status
-  completed out_before out_after status (own, is, (m, verdict, ends)) command e told faultless =
+  pub completed : (out_before out_after : Output) (ending : Ending) → CanEndBy words ending → Completes words before after out_before out_after ending.status
+  completed out_before out_after ending (own, is, (m, verdict, ends)) command e told faultless =
       let same = one_command words own command is e in
-      inl (m, verdict, subst (λ (d : Command). status ≡ (ending_of d m verdict).status) same (ap (λ (x : Ending). x.status) (sym ends)))
+      inl (m, verdict, subst (λ (d : Command). ending.status ≡ (ending_of d m verdict).status) same (ap (λ (x : Ending). x.status) (sym ends)))
 
   -- a command that was carried out ended as one
-  pub ended : (status : ℕ) (err : Output) → EndQuietly words status → Ends words before after err err status
-  ended status err (command, is, (n, verdict, ends)) =
-      inl (command, n, verdict, is, subst (EndsWith status err err) (sym ends) (refl, refl))
+  pub ended : (status : ℕ) (ending : Ending) (err_before err_after : Output) → CanEndBy words ending → EndsWith status err_before err_after ending
+      → Ends words before after err_before err_after status
+  ended status ending err_before err_after (command, is, (n, verdict, ends)) so =
+      inl (command, n, verdict, is, subst (EndsWith status err_before err_after) (sym ends) so)
 
 zero_or_one : (verdict : Verdict) → (status_of_verdict verdict ≡ 0) ⊎ (status_of_verdict verdict ≡ 1)
 zero_or_one Yes = inl refl
 zero_or_one verdict = inr refl
 
--- nothing was put for people where nothing was to be
-pub quiet_end : (shelf : Files) (command : Command) (IsPut : List ℕ → Type 0) (status : ℕ) (receipt : Option Closing) (err : Output)
-    → IsCarriedOut shelf command IsPut (IsQuiet status) receipt → IsCarriedOut shelf command IsPut (EndsWith status err err) receipt
-quiet_end shelf command IsPut status receipt err d = record {
+amendment_ends : (n : NamedMarket) (verdict : Verdict) → ((ending_of_amendment n verdict).status ≡ 0) ⊎ (((ending_of_amendment n verdict).status ≡ 1) × (is_some (ending_of_amendment n verdict).line ≡ true))
+amendment_ends n Yes = inl refl
+amendment_ends n verdict = inr (refl, refl)
+
+-- it ended so, where it ended as it was to
+pub end_with : (shelf : Files) (command : Command) (IsPut : List ℕ → Type 0) (done : Done) (err_before err_after : Output)
+    → IsCarriedOut shelf command IsPut (IsEnding done) done.receipt → EndsWith done.status err_before err_after (ending_in done)
+    → IsCarriedOut shelf command IsPut (EndsWith done.status err_before err_after) done.receipt
+end_with shelf command IsPut done err_before err_after d so = record {
   n = d.n;
   held = d.held;
   verdict = d.verdict;
   text = d.text;
   comes = d.comes;
   put = d.put;
-  ends = subst (EndsWith status err err) (sym d.ends) (refl, refl);
+  ends = subst (EndsWith done.status err_before err_after) (sym d.ends) so;
 }
 
--- with status 0, or with status 1 where it is a check
-pub low_status : (words : List (List ℕ)) (status : ℕ) → EndQuietly words status → (status ≡ 0) ⊎ ((status ≡ 1) × IsCheck words)
-low_status words status (clear w t, is, (n, verdict, ends)) = inl (sym (ap (λ (x : Ending). x.status) ends))
-low_status words status (check t document, is, (n, verdict, ends)) = elim (zero_or_one verdict) [
+-- with status 0, or with status 1 where it judges a document
+pub low_status : (words : List (List ℕ)) (ending : Ending) → CanEndBy words ending → (ending.status ≡ 0) ⊎ ((ending.status ≡ 1) × IsJudging words)
+low_status words ending (clear w t, is, (n, verdict, ends)) = inl (sym (ap (λ (x : Ending). x.status) ends))
+low_status words ending (check t document, is, (n, verdict, ends)) = elim (zero_or_one verdict) [
   | inl zero ↦ inl (sym (ap (λ (x : Ending). x.status) ends) ∙ zero)
-  | inr one ↦ inr (sym (ap (λ (x : Ending). x.status) ends) ∙ one, (t, document, is))
+  | inr one ↦ inr (sym (ap (λ (x : Ending). x.status) ends) ∙ one, (check t document, is, refl))
 ]
-low_status words status (watch looks w t, is, (n, verdict, ends)) = inl (sym (ap (λ (x : Ending). x.status) ends))
-low_status words status (demo a w, is, (n, verdict, ends)) = inl (sym (ap (λ (x : Ending). x.status) ends))
+low_status words ending (watch k w t, is, (n, verdict, ends)) = inl (sym (ap (λ (x : Ending). x.status) ends))
+low_status words ending (amend w t document a, is, (n, verdict, ends)) = elim (amendment_ends n verdict) [
+  | inl zero ↦ inl (sym (ap (λ (x : Ending). x.status) ends) ∙ zero)
+  | inr one ↦ inr (sym (ap (λ (x : Ending). x.status) ends) ∙ one.0, (amend w t document a, is, refl))
+]
+low_status words ending (print_table p t a, is, (n, verdict, ends)) = inl (sym (ap (λ (x : Ending). x.status) ends))
+low_status words ending (demo a w, is, (n, verdict, ends)) = inl (sym (ap (λ (x : Ending). x.status) ends))
+
+-- an amendment that ended with status 1 has a line
+has_line : (n : NamedMarket) (verdict : Verdict) (ending : Ending) → ending_of_amendment n verdict ≡ ending → ending.status ≡ 1 → is_some ending.line ≡ true
+has_line n verdict ending ends one = elim (amendment_ends n verdict) [
+  | inl zero ↦ (let none = sym zero ∙ (ap (λ (x : Ending). x.status) ends ∙ one) in absurd (omega (arith, none)))
+  | inr both ↦ sym (ap (λ (x : Ending). is_some x.line) ends) ∙ both.1
+]
+
+-- a line is there where its text is
+some_items : (o : Option (Vec ℕ Global)) → is_some (option_map (λ line. line.items) o) ≡ true → is_some o ≡ true
+some_items None e = e
+some_items (Some line) e = refl
+
+pub line_there : (done : Done) → is_some (ending_in done).line ≡ true → is_some done.line ≡ true
+line_there done e = some_items done.line e
+
+pub unproved_line_of : (words : List (List ℕ)) (ending : Ending) → CanEndBy words ending → IsAmend words → ending.status ≡ 1 → is_some ending.line ≡ true
+unproved_line_of words ending (own, is, (n, verdict, ends)) (w, t, document, a, e) one =
+    has_line n verdict ending (ap (λ (d : Command). ending_of d n verdict) (sym (one_command words own (amend w t document a) is e)) ∙ ends) one
 
 -- a demo has no file that could be the cause of a failure
 demo_cause : (a w : ℕ) (before after : Files) (failure : Failure) → IsCause (inputs_of (demo a w)) before after failure → (status_of failure ≡ 5) ⊎ (status_of failure ≡ 6)
@@ -195,18 +232,23 @@ pub demo_files : (words : List (List ℕ)) (command : Command) → AreWordsOf wo
 demo_files words command is (a, w, e) = ap (λ (d : Command). (inputs_of d).files) (one_command words command (demo a w) is e)
 
 -- they end with 0 where it is carried out
-pub demo_status : (words : List (List ℕ)) (status : ℕ) → EndQuietly words status → IsDemo words → status ≡ 0
-demo_status words status (own, is, (n, verdict, ends)) (a, w, e) =
+pub demo_status : (words : List (List ℕ)) (ending : Ending) → CanEndBy words ending → IsDemo words → ending.status ≡ 0
+demo_status words ending (own, is, (n, verdict, ends)) (a, w, e) =
     ap (λ (x : Ending). x.status) (sym ends) ∙ ap (λ (d : Command). (ending_of d n verdict).status) (one_command words own (demo a w) is e)
 
 -- words answer a receipt exactly where their command does
-pub receipt_of : (words : List (List ℕ)) (command : Command) → AreWordsOf words command → (ended : Ended) → AnswersReceipt command ended → AnswerReceipt words ended
-receipt_of words command is ended (to, from) = (
+pub receipt_of : (words : List (List ℕ)) (command : Command) → AreWordsOf words command → (status : ℕ) (receipt : Option Closing) → AnswersReceipt command status receipt → AnswerReceipt words status receipt
+receipt_of words command is status receipt (to, from) = (
   λ some. let (zero, clearing) = to some in (zero, (command, is, clearing)),
   λ both.
       let (zero, (own, own_is, clearing)) = both in
       from (zero, subst (λ (d : Command). is_clearing d ≡ true) (one_command words own command own_is is) clearing),
 )
+
+-- and it is of a floor as their command's is
+pub floor_for : (words : List (List ℕ)) (command : Command) → AreWordsOf words command → (receipt : Option Closing) → IfSome receipt (IsOfFloor command) → IfSome receipt (IsOfFloorFor words)
+floor_for words command is None floor = tt
+floor_for words command is (Some receipt) floor = (command, is, floor)
 
 -- a failure has status 2 exactly where the words are those of no command
 other_status : (failure : Failure) → (failure ≡ Words → ⊥) → status_of failure ≡ 2 → ⊥

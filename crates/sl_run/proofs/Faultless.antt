@@ -3,7 +3,7 @@ use Rattle.std.proofs.Common.{zero, suc, List, [], ◌∷◌, refl}
 use Rattle.std.proofs.lemmas.List.Elements.{All-nil, All-cons}
 use Rattle.sl_io.specs.Shelf.{Files}
 use Rattle.sl_types.specs.declared.kinds.Rule.{Rule}
-use Rattle.sl_codes.specs.declared.faults.Table.TheVariants.{Pools, Programmes, Applications, Results}
+use Rattle.sl_codes.specs.declared.faults.Table.TheVariants.{Pools, Programmes, Applications, Results, Amendments}
 use Rattle.sl_codes.specs.Records.{records_of, rows_of}
 use Rattle.sl_pools.specs.Pools.{pools_of}
 use Rattle.sl_pools.specs.Programmes.{programmes_of}
@@ -11,12 +11,12 @@ use Rattle.sl_choices.specs.Choices.{choices_of}
 use Rattle.sl_choices.proofs.Whole.{kept_whole}
 use Rattle.sl_instance.specs.NamedMarket.{NamedMarket}
 use Rattle.sl_instance.proofs.Existence.{assembled_of}
-use Rattle.sl_run.specs.Words.{TableNames, Command, clear, check, watch, demo, File, file_of, inputs_of, letter_rule, tables_and}
+use Rattle.sl_run.specs.Words.{TableNames, Command, clear, check, watch, amend, print_table, demo, File, file_of, inputs_of, letter_rule, tables_and}
 use Rattle.sl_codes.proofs.FirstFault.{neither}
 use Rattle.sl_run.specs.Accepted.{HoldsFor, Hold, AreAccepted, AreHeld, choice_fault}
 use Rattle.sl_run.specs.Causes.{AreFaultless}
 use Rattle.sl_run.specs.Run.{TablesHaveInstance}
-use Rattle.sl_run.proofs.Accepting.{with_progs, with_pools, nothing_read, made_of_tables, one_more}
+use Rattle.sl_run.proofs.Accepting.{with_progs, with_pools, nothing_read, made_of_tables, one_more, two_more}
 
 module _ (shelf : Files) (t : TableNames) (more : List File) (f : AreFaultless shelf (tables_and t more)) where
   -- the three tables of such files
@@ -49,7 +49,19 @@ accepted_of shelf (check t document) f =
     let (n, held) = tables_held shelf t (file_of Results document ∷ []) f in
     let (text, told, few, right) = f (suc (suc (suc zero))) (file_of Results document) refl n held in
     (n, one_more shelf (letter_rule t.letter) t n (file_of Results document) held (text, told, few, (right, tt)))
-accepted_of shelf (watch looks w t) f = tables_held shelf t [] f
+accepted_of shelf (watch k w t) f = tables_held shelf t [] f
+accepted_of shelf (amend w t document amendments) f =
+    let (n, held) = tables_held shelf t (file_of Results document ∷ file_of Amendments amendments ∷ []) f in
+    let result = file_of Results document in
+    let rows = file_of Amendments amendments in
+    let (text, told, few, right) = f (suc (suc (suc zero))) result refl n held in
+    let both = one_more shelf (letter_rule t.letter) t n result held (text, told, few, (right, tt)) in
+    let (text', told', few', right') = f (suc (suc (suc (suc zero)))) rows refl n both in
+    (n, two_more shelf (letter_rule t.letter) t n result rows both (text', told', few', (right', tt)))
+accepted_of shelf (print_table p t amendments) f =
+    let (n, held) = tables_held shelf t (file_of Amendments amendments ∷ []) f in
+    let (text, told, few, right) = f (suc (suc (suc zero))) (file_of Amendments amendments) refl n held in
+    (n, one_more shelf (letter_rule t.letter) t n (file_of Amendments amendments) held (text, told, few, (right, tt)))
 accepted_of shelf (demo k w) f = (nothing_read, All-nil (HoldsFor shelf Rule.H nothing_read))
 
 pub tables_have_instance : TablesHaveInstance

@@ -7,4 +7,5 @@ pub mod Lines
 pub mod Writing
 pub mod Admitted
 pub mod Once
+pub mod Amending
 pub mod Looked

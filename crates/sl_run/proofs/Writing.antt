@@ -11,12 +11,17 @@ use Rattle.sl_run.specs.Words.{Inputs}
 use Rattle.sl_run.specs.Accepted.{AreReadAs}
 use Rattle.sl_run.specs.Causes.{IsCause}
 use Rattle.sl_run.specs.Failures.{failure_of_write, status_of}
-use Rattle.sl_run.specs.Run.{Leaves, is_of_files}
+use Rattle.sl_run.specs.Run.{Leaves, is_of_files, is_of_output}
 
 -- all files had been accepted
 pub write_cause : (inputs : Inputs) (before after : Files) (n : NamedMarket) (error : WriteError) → AreReadAs before inputs n → IsCause inputs before after (failure_of_write error)
 write_cause inputs before after n WriteError.Fault held = λ t. (n, held t)
 write_cause inputs before after n WriteError.OutOfMemory held = tt
+
+-- it is of the output, or of memory
+pub write_late : (error : WriteError) → is_of_output (failure_of_write error) ≡ true
+write_late WriteError.Fault = refl
+write_late WriteError.OutOfMemory = refl
 
 is_less : (n : ℕ) → 4 < n → (n ≡ 2) ⊎ (n ≡ 3) ⊎ (n ≡ 4) → ⊥
 is_less n more (inl is) = omega (arith, more, is)

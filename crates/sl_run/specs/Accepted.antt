@@ -16,7 +16,8 @@ use Rattle.sl_instance.specs.NamedMarket.{NamedMarket}
 use Rattle.sl_instance.specs.Assembly.{IsAssembled}
 use Rattle.sl_instance.specs.Causes.{merits_fault}
 use Rattle.sl_doc.specs.Reading.{doc_fault}
-use Rattle.sl_run.specs.Words.{Command, clear, check, watch, demo, File, Inputs}
+use Rattle.sl_amend.specs.Files.{amendments_fault}
+use Rattle.sl_run.specs.Words.{Command, clear, check, watch, amend, print_table, demo, File, Inputs}
 
 -- a shelf tells what its files hold
 abbrev pub IsTold : Files → Type 0
@@ -27,6 +28,8 @@ abbrev pub IsToldTo : Files → Command → Type 0
 IsToldTo shelf (clear workers tables) = IsTold shelf
 IsToldTo shelf (check tables document) = IsTold shelf
 IsToldTo shelf (watch looks workers tables) = IsTold shelf
+IsToldTo shelf (amend workers tables document amendments) = IsTold shelf
+IsToldTo shelf (print_table printed tables amendments) = IsTold shelf
 IsToldTo shelf (demo applicants workers) = ⊤
 
 -- a file is told, is no longer than a file may be, and its text passes
@@ -64,13 +67,16 @@ application_fault pools progs text =
 abbrev pub document_fault : NamedMarket → Rule → List ℕ → Option TableFault
 document_fault n rule text = doc_fault n rule (records_of text)
 
+abbrev pub amendment_fault : NamedMarket → List ℕ → Option TableFault
+amendment_fault n text = amendments_fault n (records_of text)
+
 -- the same of a table, over an instance that has what the files before it hold
 abbrev pub fault_in : Rule → NamedMarket → Table → List ℕ → Option TableFault
 fault_in rule n Pools text = pool_fault rule text
 fault_in rule n Programmes text = programme_fault n.pool_codes text
 fault_in rule n Applications text = application_fault (pools_in n) (progs_in n) text
 fault_in rule n Results text = document_fault n rule text
-fault_in rule n Amendments text = None
+fault_in rule n Amendments text = amendment_fault n text
 
 -- what the file of a table holds is what an instance has: its pools, its programmes, its applicants with their
 -- lists

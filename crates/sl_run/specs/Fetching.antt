@@ -5,7 +5,7 @@ use Rattle.sl_io.specs.declared.shelf.TheConstants.{LONGEST_FILE}
 use Rattle.sl_types.specs.declared.kinds.Rule.{Rule}
 use Rattle.sl_codes.specs.declared.faults.Table.{Table}
 use Rattle.sl_codes.specs.declared.faults.TableFault.{TableFault}
-use Rattle.sl_codes.specs.Records.{rows_of}
+use Rattle.sl_codes.specs.Records.{Record, rows_of}
 use Rattle.sl_pools.specs.Pools.{PoolList, pools_of}
 use Rattle.sl_pools.specs.Programmes.{ProgList, programmes_of}
 use Rattle.sl_choices.specs.Choices.{ChoiceList, choices_of}
@@ -15,7 +15,7 @@ use Rattle.sl_doc.specs.Document.{Document}
 use Rattle.sl_doc.specs.Reading.{document_of}
 use Rattle.sl_run.specs.declared.failure.Failure.{Failure}
 use Rattle.sl_run.specs.declared.failure.Failure.TheVariants.{Refused, TooLong, Unreadable, OutOfMemory}
-use Rattle.sl_run.specs.Accepted.{IsTold, HoldsTooMuch, pool_fault, programme_fault, choice_fault, application_fault, document_fault}
+use Rattle.sl_run.specs.Accepted.{IsTold, HoldsTooMuch, pool_fault, programme_fault, choice_fault, application_fault, document_fault, amendment_fault}
 
 -- where the files are told, that of this name has this text
 abbrev pub IsTextOf : Files → List ℕ → List ℕ → Type 0
@@ -25,7 +25,7 @@ IsTextOf shelf name text = IsTold shelf → (shelf.contents name ≡ Some text) 
 abbrev pub Reads : Files → List ℕ → (List ℕ → Type 0) → Type 0
 Reads shelf name P = (text : List ℕ) × P text × IsTextOf shelf name text
 
--- a text without a fault, and what it gives: pools, programmes, choices, a document
+-- a text without a fault, and what it gives: pools, programmes, choices, a document, rows
 abbrev pub GivesPools : Rule → PoolList → List ℕ → Type 0
 GivesPools rule pools text = (pool_fault rule text ≡ None) × (pools_of rule (rows_of text) ≡ pools)
 
@@ -45,6 +45,9 @@ GivesInstance pools progs n text =
 
 abbrev pub GivesDocument : NamedMarket → Rule → Document → List ℕ → Type 0
 GivesDocument n rule doc text = (document_fault n rule text ≡ None) × (doc ≡ document_of n (rows_of text))
+
+abbrev pub GivesRows : NamedMarket → List Record → List ℕ → Type 0
+GivesRows n rows text = (amendment_fault n text ≡ None) × (rows ≡ rows_of text)
 
 -- why the file of a table was not fetched
 abbrev pub IsFetchCause : Table → Files → Files → List ℕ → Failure → Type 0

@@ -6,8 +6,9 @@ use Rattle.sl_types.specs.declared.kinds.Rule.{Rule}
 use Rattle.sl_types.specs.declared.kinds.TheConstants.{MAX_APPLICANTS}
 use Rattle.sl_types.specs.declared.kinds.Rule.TheVariants as rule
 use Rattle.sl_codes.specs.declared.faults.Table.{Table}
-use Rattle.sl_codes.specs.declared.faults.Table.TheVariants.{Pools, Programmes, Applications, Results}
+use Rattle.sl_codes.specs.declared.faults.Table.TheVariants.{Pools, Programmes, Applications, Results, Amendments}
 use Rattle.sl_codes.specs.Fields.{number_within}
+use Rattle.sl_amend.specs.Tables.{is_written}
 use Rattle.sl_run.specs.declared.words.TheConstants.{MAX_WORKERS, MAX_LOOKS}
 use Rattle.sl_run.specs.declared.words.Letter.{Letter}
 use Rattle.sl_run.specs.declared.words.Letter.TheVariants.{H, L}
@@ -34,6 +35,8 @@ pub data Command : Type 0 where
   clear : (workers : ℕ) (tables : TableNames) → Command
   check : (tables : TableNames) (document : List ℕ) → Command
   watch : (looks workers : ℕ) (tables : TableNames) → Command
+  amend : (workers : ℕ) (tables : TableNames) (document amendments : List ℕ) → Command
+  print_table : (printed : Table) (tables : TableNames) (amendments : List ℕ) → Command
   demo : (applicants workers : ℕ) → Command
 
 -- the rule that a letter gives to pools of kind `score`
@@ -46,6 +49,12 @@ abbrev pub letter_of : List ℕ → Option Letter
 letter_of word =
     if bytes_eq word (codes "H") then Some H
     else (if bytes_eq word (codes "L") then Some L else None)
+
+-- the table that a word is, of those that `table` prints
+abbrev pub printed_of : List ℕ → Option Table
+printed_of word =
+    if bytes_eq word (codes "pools") then Some Pools
+    else (if bytes_eq word (codes "applications") then Some Applications else None)
 
 -- the numbers of workers, of looks and of applicants that words of 1 to 9 digits are
 abbrev pub workers_of : List ℕ → Option ℕ
@@ -77,6 +86,19 @@ watch_of (looks ∷ letter ∷ workers ∷ p ∷ g ∷ a ∷ []) =
     (looks_of looks)
 watch_of words = None
 
+-- `R W pools programmes applications result amendments`
+abbrev pub amend_of : List (List ℕ) → Option Command
+amend_of (letter ∷ workers ∷ p ∷ g ∷ a ∷ document ∷ amendments ∷ []) =
+    option_and_then (λ l. option_map (λ w. amend w (names_of l p g a) document amendments) (workers_of workers))
+    (letter_of letter)
+amend_of words = None
+
+-- `T pools programmes applications amendments`; pools of kind `score` are read with rule H
+abbrev pub table_of : List (List ℕ) → Option Command
+table_of (printed ∷ p ∷ g ∷ a ∷ amendments ∷ []) =
+    option_map (λ t. print_table t (names_of H p g a) amendments) (printed_of printed)
+table_of words = None
+
 -- `n W`
 abbrev pub demo_of : List (List ℕ) → Option Command
 demo_of (applicants ∷ workers ∷ []) =
@@ -90,7 +112,9 @@ command_of (name ∷ words) =
     if bytes_eq name (codes "clear") then clear_of words
     else (if bytes_eq name (codes "check") then check_of words
     else (if bytes_eq name (codes "watch") then watch_of words
-    else (if bytes_eq name (codes "demo") then demo_of words else None)))
+    else (if bytes_eq name (codes "amend") then amend_of words
+    else (if bytes_eq name (codes "table") then table_of words
+    else (if bytes_eq name (codes "demo") then demo_of words else None)))))
 
 -- words that are those of this command, and of none
 abbrev pub AreWordsOf : List (List ℕ) → Command → Type 0
@@ -99,9 +123,23 @@ AreWordsOf words command = command_of words ≡ Some command
 abbrev pub AreNoCommand : List (List ℕ) → Type 0
 AreNoCommand words = command_of words ≡ None
 
--- the words are those of a check
-abbrev pub IsCheck : List (List ℕ) → Type 0
-IsCheck words = (tables : TableNames) × (document : List ℕ) × AreWordsOf words (check tables document)
+-- whether a command judges a document
+abbrev pub is_judging : Command → Bool
+is_judging (clear workers tables) = false
+is_judging (check tables document) = true
+is_judging (watch looks workers tables) = false
+is_judging (amend workers tables document amendments) = true
+is_judging (print_table printed tables amendments) = false
+is_judging (demo applicants workers) = false
+
+-- the words are those of a command that does
+abbrev pub IsJudging : List (List ℕ) → Type 0
+IsJudging words = (command : Command) × AreWordsOf words command × (is_judging command ≡ true)
+
+-- they are those of an amendment
+abbrev pub IsAmend : List (List ℕ) → Type 0
+IsAmend words = (workers : ℕ) × (tables : TableNames) × (document : List ℕ) × (amendments : List ℕ)
+    × AreWordsOf words (amend workers tables document amendments)
 
 -- they are those of a demo
 abbrev pub IsDemo : List (List ℕ) → Type 0
@@ -112,6 +150,8 @@ abbrev pub is_clearing : Command → Bool
 is_clearing (clear workers tables) = true
 is_clearing (check tables document) = false
 is_clearing (watch looks workers tables) = true
+is_clearing (amend workers tables document amendments) = true
+is_clearing (print_table printed tables amendments) = false
 is_clearing (demo applicants workers) = true
 
 -- the words are those of a command that does
@@ -133,6 +173,8 @@ abbrev pub HasRanges : Command → Type 0
 HasRanges (clear workers tables) = AreWorkers workers
 HasRanges (check tables document) = ⊤
 HasRanges (watch looks workers tables) = AreLookCount looks × AreWorkers workers
+HasRanges (amend workers tables document amendments) = AreWorkers workers
+HasRanges (print_table printed tables amendments) = is_written printed ≡ true
 HasRanges (demo applicants workers) = AreApplicants applicants × AreWorkers workers
 
 -- tables and a command that the program has read, by the texts of their names
@@ -143,6 +185,9 @@ abbrev pub command_in : spoken.Command → Command
 command_in (form.Clear workers tables) = clear workers (tables_in tables)
 command_in (form.Check tables document) = check (tables_in tables) document.now
 command_in (form.Watch looks workers tables) = watch looks workers (tables_in tables)
+command_in (form.Amend workers tables document amendments) =
+    amend workers (tables_in tables) document.now amendments.now
+command_in (form.Table printed tables amendments) = print_table printed (tables_in tables) amendments.now
 command_in (form.Demo applicants workers) = demo applicants workers
 
 -- a file of a command: its table, and its name
@@ -169,10 +214,23 @@ tables_and t more = record {
 abbrev pub no_inputs : Inputs
 no_inputs = record { rule = rule.H; files = [] }
 
+-- tables and a result, with amendments and without; and tables with amendments alone
+abbrev pub result_inputs : TableNames → List ℕ → Inputs
+result_inputs tables document = tables_and tables (file_of Results document ∷ [])
+
+abbrev pub round_inputs : TableNames → List ℕ → List ℕ → Inputs
+round_inputs tables document amendments =
+    tables_and tables (file_of Results document ∷ file_of Amendments amendments ∷ [])
+
+abbrev pub table_inputs : TableNames → List ℕ → Inputs
+table_inputs tables amendments = tables_and tables (file_of Amendments amendments ∷ [])
+
 abbrev pub inputs_of : Command → Inputs
 inputs_of (clear workers tables) = tables_and tables []
-inputs_of (check tables document) = tables_and tables (file_of Results document ∷ [])
+inputs_of (check tables document) = result_inputs tables document
 inputs_of (watch looks workers tables) = tables_and tables []
+inputs_of (amend workers tables document amendments) = round_inputs tables document amendments
+inputs_of (print_table printed tables amendments) = table_inputs tables amendments
 inputs_of (demo applicants workers) = no_inputs
 
 -- what three tables alone are read as

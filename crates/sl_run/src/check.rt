@@ -1,55 +1,29 @@
 ghost use Rattle.std.specs.Prelude.{◌≡◌, ◌<◌, ◌^◌, true, length, IfOk, IfErr};
 ghost use Rattle.sl_io.specs.Shelf.{KeepsFiles};
 ghost use Rattle.sl_check.specs.Verdict.{IsVerdict};
-ghost use Rattle.sl_codes.specs.declared.faults.Table.TheVariants.{Results};
 ghost use Rattle.sl_doc.specs.Document.{IsInRange};
 ghost use Rattle.sl_doc.specs.VerdictText.{NamesWithin};
 ghost use Rattle.sl_run.specs.Words.{check, inputs_of, letter_rule, tables_in};
-ghost use Rattle.sl_run.specs.Accepted.{IsTold, AreReadAs, document_fault};
-ghost use Rattle.sl_run.specs.Fetching.{Reads, GivesDocument, IsFileCause};
+ghost use Rattle.sl_run.specs.Accepted.{IsTold, AreReadAs};
 ghost use Rattle.sl_run.specs.Causes.{IsCause};
-ghost use Rattle.sl_run.specs.Ending.{IsDoneQuietly, status_of_verdict};
-ghost use Rattle.sl_run.specs.Receipt.{ended_without};
+ghost use Rattle.sl_run.specs.Ending.{CanEnd, ending_in, status_of_verdict};
+ghost use Rattle.sl_run.specs.Receipt.{done_without};
 ghost use Rattle.sl_run.specs.Run.{IsJudged, Performs, LeavesOf, is_of_files};
 
+use crate::documents::read_document;
 use crate::failure::Failure;
-use crate::files::{fetch, read_tables};
-use crate::words::{Letter, Tables};
+use crate::words::Tables;
 use sl_check::{Verdict, check};
-use sl_codes::Table;
 use sl_contend::Contenders;
-use sl_doc::{Doc, read_doc, verdict_text};
+use sl_doc::{Doc, verdict_text};
 use sl_instance::Named;
 use sl_io::{Shelf, Sink};
 use sl_nested::Mixed;
 use sl_types::OutOfMemory;
 use std::alloc::Global;
 
-// The document of an instance that a file holds.
-fn fetch_result<S: Shelf>(
-    alloc: Global,
-    shelf: &mut S,
-    name: &str,
-    named: &Named,
-    letter: Letter,
-) -> Result<Doc, Failure>
-    ensures document { let gives = GivesDocument named.now (letter_rule letter) in
-        IfOk result (λ doc. Reads (S.files shelf.old) name.now (gives doc)) }
-    ensures in_range { IfOk result (IsInRange named.now) }
-    ensures few { IfOk result (λ doc. length doc.raises < 2 ^ 32) }
-    ensures cause { let first = document_fault named.now (letter_rule letter) in
-        IfErr result (IsFileCause Results first (S.files shelf.old) (S.files shelf.new) name.now) }
-    ensures keeps { KeepsFiles (S.files shelf.old) (S.files shelf.new) }
-{
-    let bytes = fetch(alloc, shelf, Table::Results, name)?;
-    match read_doc(alloc, &bytes, named, letter.rule()) {
-        Ok(doc) => Ok(doc),
-        Err(error) => Err(Failure::from(error)),
-    }
-}
-
-// The verdict on a document of an instance.
-fn verdict_on(alloc: Global, named: &Named, doc: &Doc) -> Result<Verdict, OutOfMemory>
+/// The verdict on a document of an instance.
+pub fn verdict_on(alloc: Global, named: &Named, doc: &Doc) -> Result<Verdict, OutOfMemory>
     requires in_range { IsInRange named.now doc.now }
     requires few { length doc.now.raises < 2 ^ 32 }
     ensures verdict { let d = doc.now in
@@ -88,8 +62,7 @@ fn judge<S: Shelf>(
     ensures late { IfErr result (λ failure. is_of_files failure ≡ true) }
     ensures keeps { KeepsFiles (S.files shelf.old) (S.files shelf.new) }
 {
-    let named = read_tables(alloc, tables, shelf)?;
-    let doc = fetch_result(alloc, shelf, document, &named, tables.letter)?;
+    let (named, doc) = read_document(alloc, tables, document, shelf)?;
     match verdict_on(alloc, &named, &doc) {
         Ok(verdict) => Ok((named, verdict)),
         Err(_) => Err(Failure::OutOfMemory),
@@ -116,8 +89,9 @@ pub fn check_to<S: Shelf, O: Sink>(
 ) -> Result<u8, Failure>
     ensures carried_out { let command = check (tables_in tables.entry) document.now in
         let by = Performs (S.files shelf.old) command (O.output out.old) (O.output out.new) in
-        IfOk result (λ status. by (ended_without status)) }
-    ensures done { IfOk result (IsDoneQuietly (check (tables_in tables.entry) document.now)) }
+        IfOk result (λ status. by (done_without status)) }
+    ensures done { let command = check (tables_in tables.entry) document.now in
+        IfOk result (λ status. CanEnd command (ending_in (done_without status))) }
     ensures left { let command = check (tables_in tables.entry) document.now in
         let same = out.new ≡ out.old in
         IfErr result

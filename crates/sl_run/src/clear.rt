@@ -2,7 +2,7 @@ ghost use Rattle.std.specs.Prelude.{◌≡◌, IfOk, IfErr};
 ghost use Rattle.sl_io.specs.Shelf.{KeepsFiles};
 ghost use Rattle.sl_run.specs.Words.{clear, tables_in, inputs_in, AreWorkers};
 ghost use Rattle.sl_run.specs.Causes.{IsCause};
-ghost use Rattle.sl_run.specs.Receipt.{ended_with, IsOfOpenFloor};
+ghost use Rattle.sl_run.specs.Receipt.{done_with, IsOfFloor};
 ghost use Rattle.sl_run.specs.Run.{Performs, LeavesOf};
 
 use crate::failure::Failure;
@@ -30,8 +30,8 @@ pub fn clear_to<S: Shelf, O: Sink, G: Gate>(
     requires { AreWorkers workers }
     ensures carried_out { let command = clear workers (tables_in tables.entry) in
         let by = Performs (S.files shelf.old) command (O.output out.old) (O.output out.new) in
-        IfOk result (λ receipt. by (ended_with receipt)) }
-    ensures floor { IfOk result IsOfOpenFloor }
+        IfOk result (λ receipt. by (done_with receipt)) }
+    ensures floor { IfOk result (IsOfFloor (clear workers (tables_in tables.entry))) }
     ensures left { let command = clear workers (tables_in tables.entry) in
         let same = out.new ≡ out.old in
         IfErr result
@@ -41,7 +41,7 @@ pub fn clear_to<S: Shelf, O: Sink, G: Gate>(
     ensures keeps { KeepsFiles (S.files shelf.old) (S.files shelf.new) }
 {
     let named = read_tables(alloc, tables, shelf)?;
-    let (doc, receipt) = result_of(rt, alloc, &named, workers, gate)?;
+    let (doc, receipt) = result_of(rt, alloc, &named, &[], workers, gate)?;
     match doc_text(alloc, &named, tables.letter.rule(), &doc, out) {
         Ok(()) => Ok(receipt),
         Err(error) => Err(Failure::from(error)),

@@ -1,19 +1,22 @@
-ghost use Rattle.std.specs.Prelude.{◌≡◌, ◌⊎◌, ◌↔◌, [], IfOk, IfErr, IfSome, IsErrOf};
+ghost use Rattle.std.specs.Prelude.{◌≡◌, ◌⊎◌, ◌↔◌, [], true, is_some, IfOk, IfErr, IfSome, IsErrOf};
 ghost use Rattle.sl_io.specs.Shelf.{KeepsFiles};
 ghost use Rattle.sl_io.specs.Sink.{RoseIn};
 ghost use Rattle.sl_run.specs.Words.{texts_of, command_in, inputs_of, HasRanges};
-ghost use Rattle.sl_run.specs.Words.{AreNoCommand, IsCheck, IsDemo};
+ghost use Rattle.sl_run.specs.Words.{AreNoCommand, IsAmend, IsDemo, IsJudging};
 ghost use Rattle.sl_run.specs.Causes.{IsCause, IsCauseOf, Refuses, Completes};
-ghost use Rattle.sl_run.specs.Ending.{IsQuiet, IsDoneQuietly, EndsWith};
-ghost use Rattle.sl_run.specs.Receipt.{AnswersReceipt, AnswerReceipt, IsOfOpenFloor};
+ghost use Rattle.sl_run.specs.Ending.{CanEnd, IsEnding, EndsWith, ending_in};
+ghost use Rattle.sl_run.specs.Receipt.{AnswersReceipt, AnswerReceipt, IsOfFloor, IsOfFloorFor};
 ghost use Rattle.sl_run.specs.Run.{Performs, LeavesOf, CarriesOut, BreaksOff};
-ghost use Rattle.sl_run.specs.Run.{EndQuietly, Ends, Leaves};
+ghost use Rattle.sl_run.specs.Run.{CanEndBy, Ends, Leaves};
 
+use crate::amend::amend_to;
 use crate::check::check_to;
 use crate::clear::clear_to;
 use crate::demo::demo_to;
+use crate::done::Done;
 use crate::ended::Ended;
-use crate::failure::{Failure, report};
+use crate::failure::{Failure, put_line, report};
+use crate::table::table_to;
 use crate::watch::watch_to;
 use crate::words::Command;
 use sl_desk::Gate;
@@ -29,14 +32,16 @@ fn carry_out<S: Shelf, O: Sink, G: Gate>(
     shelf: &mut S,
     out: &mut O,
     gate: &G,
-) -> Result<Ended, Failure>
+) -> Result<Done, Failure>
     requires { HasRanges (command_in command) }
     ensures carried_out { let command = command_in command.entry in
         IfOk result (Performs (S.files shelf.old) command (O.output out.old) (O.output out.new)) }
-    ensures done { let command = command_in command.entry in
-        IfOk result (λ ended. IsDoneQuietly command ended.status) }
-    ensures receipt { IfOk result (AnswersReceipt (command_in command.entry)) }
-    ensures floor { IfOk result (λ ended. IfSome ended.receipt IsOfOpenFloor) }
+    ensures done { IfOk result (λ done. CanEnd (command_in command.entry) (ending_in done)) }
+    ensures receipt { let answers = AnswersReceipt (command_in command.entry) in
+        IfOk result (λ done. answers done.status done.receipt) }
+    ensures floor { let command = command_in command.entry in
+        IfOk result (λ done. IfSome done.receipt (IsOfFloor command)) }
+    ensures unproved { IfOk result (λ done. is_some done.line ≡ true → out.new ≡ out.old) }
     ensures left { let command = command_in command.entry in
         let same = out.new ≡ out.old in
         IfErr result
@@ -49,13 +54,13 @@ fn carry_out<S: Shelf, O: Sink, G: Gate>(
     match command {
         Command::Clear { workers, tables } => {
             match clear_to(rt, alloc, workers, tables, shelf, out, gate) {
-                Ok(receipt) => Ok(Ended::with_receipt(receipt)),
+                Ok(receipt) => Ok(Done::with_receipt(receipt)),
                 Err(failure) => Err(failure),
             }
         }
         Command::Check { tables, document } => {
             match check_to(alloc, tables, document, shelf, out) {
-                Ok(status) => Ok(Ended::without_receipt(status)),
+                Ok(status) => Ok(Done::without_receipt(status)),
                 Err(failure) => Err(failure),
             }
         }
@@ -64,14 +69,30 @@ fn carry_out<S: Shelf, O: Sink, G: Gate>(
             workers,
             tables,
         } => match watch_to(rt, alloc, looks, workers, tables, shelf, out, gate) {
-            Ok(receipt) => Ok(Ended::with_receipt(receipt)),
+            Ok(receipt) => Ok(Done::with_receipt(receipt)),
+            Err(failure) => Err(failure),
+        },
+        Command::Amend {
+            workers,
+            tables,
+            document,
+            amendments,
+        } => amend_to(
+            rt, alloc, workers, tables, document, amendments, shelf, out, gate,
+        ),
+        Command::Table {
+            printed,
+            tables,
+            amendments,
+        } => match table_to(alloc, printed, tables, amendments, shelf, out) {
+            Ok(()) => Ok(Done::without_receipt(0)),
             Err(failure) => Err(failure),
         },
         Command::Demo {
             applicants,
             workers,
         } => match demo_to(rt, alloc, applicants, workers, out, gate) {
-            Ok(receipt) => Ok(Ended::with_receipt(receipt)),
+            Ok(receipt) => Ok(Done::with_receipt(receipt)),
             Err(failure) => Err(failure),
         },
     }
@@ -85,15 +106,18 @@ fn perform<S: Shelf, O: Sink, G: Gate>(
     shelf: &mut S,
     out: &mut O,
     gate: &G,
-) -> Result<Ended, Failure>
+) -> Result<Done, Failure>
     ensures carried_out { let texts = texts_of words.now in
         let by = CarriesOut texts (S.files shelf.old) (O.output out.old) (O.output out.new) in
-        IfOk result (λ ended. by (IsQuiet ended.status) ended.receipt) }
-    ensures done { IfOk result (λ ended. EndQuietly (texts_of words.now) ended.status) }
-    ensures low { let checks = IsCheck (texts_of words.now) in
-        IfOk result (λ ended. (ended.status ≡ 0) ⊎ ((ended.status ≡ 1) × checks)) }
-    ensures receipt { IfOk result (AnswerReceipt (texts_of words.now)) }
-    ensures floor { IfOk result (λ ended. IfSome ended.receipt IsOfOpenFloor) }
+        IfOk result (λ done. by (IsEnding done) done.receipt) }
+    ensures done { IfOk result (λ done. CanEndBy (texts_of words.now) (ending_in done)) }
+    ensures low { let judging = IsJudging (texts_of words.now) in
+        IfOk result (λ done. (done.status ≡ 0) ⊎ ((done.status ≡ 1) × judging)) }
+    ensures receipt { let answer = AnswerReceipt (texts_of words.now) in
+        IfOk result (λ done. answer done.status done.receipt) }
+    ensures floor { let texts = texts_of words.now in
+        IfOk result (λ done. IfSome done.receipt (IsOfFloorFor texts)) }
+    ensures unproved { IfOk result (λ done. is_some done.line ≡ true → out.new ≡ out.old) }
     ensures left { let texts = texts_of words.now in
         let part = BreaksOff texts (S.files shelf.old) (O.output out.old) (O.output out.new) in
         IfErr result (Leaves (out.new ≡ out.old) part (O.output out.old) (O.output out.new)) }
@@ -109,20 +133,41 @@ fn perform<S: Shelf, O: Sink, G: Gate>(
     }
 }
 
+// Puts the line for people, if there is one, and answers the rest.
+fn conclude<E: Sink>(done: Done, err: &mut E) -> Ended
+    ensures status { result.status ≡ done.status }
+    ensures receipt { result.receipt ≡ done.receipt }
+    ensures ends { EndsWith done.status (E.output err.old) (E.output err.new) (ending_in done) }
+{
+    let Done {
+        status,
+        line,
+        receipt,
+    } = done;
+    if let Some(line) = line {
+        put_line(&line, err);
+    }
+    Ended { status, receipt }
+}
+
 /// Carries out a command. `clear R W pools programmes applications`, where R is `H` or `L` and W the
 /// number of workers, 1 to 64, reads three tables from `shelf`, finds the least stable limits, and
 /// puts the result document to `out`. `check R pools programmes applications result` reads the
-/// tables and such a document, and puts the verdict on it. `watch K R W pools programmes
-/// applications` does as `clear` with K looks, 1 to 100, at the limits while the workers work, and
-/// puts first what they saw. `demo n W` clears the generated round of n applicants, 1 to 500,000,
-/// and puts its summary. Each worker passes `gate` before each of its claims, and the reader before
-/// each of its looks.
+/// tables and such a document, and puts the verdict on it. `demo n W` clears the generated round of
+/// n applicants, 1 to 500,000, and puts its summary. `watch K R W pools programmes applications` does
+/// as `clear` with 1 to 100 looks at the limits while the workers work, and puts first what they
+/// saw. `amend R W pools programmes applications
+/// result amendments` reads a published round and its amendments, and where the verdict on the old
+/// document is Yes clears the amended instance from the raises that no amendment reaches, and puts
+/// its result document. `table T pools programmes applications amendments`, where T is `pools` or
+/// `applications`, puts the amended table. Each worker passes `gate` before each of its
+/// claims, and the reader before each of its looks.
 ///
-/// The status is 0, for a check where the verdict is Yes; 1 for another verdict; 2 for other words;
-/// 3 for a file that is too long or has a fault; 4 for a file that could not be read; 5 where `out`
-/// failed; 6 where memory ran out. With a status from 2 on one line goes to `err`. With status 0 of
-/// `clear`, `watch` and `demo` there is the receipt of the floor on which the instance was cleared,
-/// and else none.
+/// The status is 0, where a document is judged with the verdict Yes; 1 for another verdict; 2 for
+/// other words; 3 for a file that is too long or has a fault; 4 for a file that could not be read; 5
+/// where `out` failed; 6 where memory ran out. With a status from 2 on, and with 1 of `amend`, one
+/// line goes to `err`. With status 0 of `clear`, `watch`, `amend` and `demo` there is the receipt of
+/// the floor on which the instance was cleared, and else none.
 pub fn run<S: Shelf, O: Sink, E: Sink, G: Gate>(
     rt: &(impl Threads + Sync),
     alloc: Global,
@@ -137,11 +182,12 @@ pub fn run<S: Shelf, O: Sink, E: Sink, G: Gate>(
         (result.status ≡ 0) ⊎ (result.status ≡ 1)
         → CarriesOut texts (S.files shelf.old) (O.output out.old) (O.output out.new) ended
         result.receipt }
-    ensures judged { result.status ≡ 1 → IsCheck (texts_of words.now) }
+    ensures judged { result.status ≡ 1 → IsJudging (texts_of words.now) }
 
-    // When there is a receipt. Whatever the shelf tells, it is of a floor that opened with no raise.
-    ensures receipt { AnswerReceipt (texts_of words.now) result }
-    ensures floor { IfSome result.receipt IsOfOpenFloor }
+    // When there is a receipt. Whatever the shelf tells, it has a whole log, and is of a floor that
+    // opened with no raise but for `amend`.
+    ensures receipt { AnswerReceipt (texts_of words.now) result.status result.receipt }
+    ensures floor { IfSome result.receipt (IsOfFloorFor (texts_of words.now)) }
 
     // When each other status comes, with its line, and what it leaves of `out`.
     ensures words { (result.status ≡ 2) ↔ AreNoCommand (texts_of words.now) }
@@ -162,6 +208,7 @@ pub fn run<S: Shelf, O: Sink, E: Sink, G: Gate>(
         (O.output out.old) (O.output out.new) result.status }
     ensures nothing { let status = result.status in
         (status ≡ 2) ⊎ (status ≡ 3) ⊎ (status ≡ 4) → out.new ≡ out.old }
+    ensures unproved { result.status ≡ 1 → IsAmend (texts_of words.now) → out.new ≡ out.old }
     ensures demo { let status = result.status in
         IsDemo (texts_of words.now) → (status ≡ 0) ⊎ (status ≡ 5) ⊎ (status ≡ 6) }
 
@@ -171,7 +218,7 @@ pub fn run<S: Shelf, O: Sink, E: Sink, G: Gate>(
     ensures keeps { KeepsFiles (S.files shelf.old) (S.files shelf.new) }
 {
     match perform(rt, alloc, words, shelf, out, gate) {
-        Ok(ended) => ended,
+        Ok(done) => conclude(done, err),
         Err(failure) => {
             report(failure, err);
             Ended {

@@ -4,7 +4,7 @@ ghost use Rattle.sl_io.specs.Sink.{Takes, TakesPart, RoseIn, KeepsCount};
 ghost use Rattle.sl_codes.specs.RecordText.{text_of_record, record_of};
 ghost use Rattle.sl_run.specs.Words.{demo, no_inputs, AreApplicants, AreWorkers};
 ghost use Rattle.sl_run.specs.Causes.{IsCause};
-ghost use Rattle.sl_run.specs.Receipt.{ended_with, IsOfOpenFloor};
+ghost use Rattle.sl_run.specs.Receipt.{done_with, IsOfFloor};
 ghost use Rattle.sl_run.specs.Run.{Performs, LeavesOf};
 
 use crate::failure::Failure;
@@ -13,7 +13,7 @@ use crate::summary::summary_records;
 use sl_codes::{Field, put_record};
 use sl_desk::Gate;
 use sl_floor::Receipt;
-use sl_gen::generate;
+use sl_gen::generate_in_parallel;
 use sl_io::{Sink, WriteError};
 use std::alloc::Global;
 use std::thread::Threads;
@@ -50,16 +50,16 @@ pub fn demo_to<O: Sink, G: Gate>(
     requires workers { AreWorkers workers }
     ensures carried_out { (files : Files) → let command = demo applicants workers in
         let by = Performs files command (O.output out.old) (O.output out.new) in
-        IfOk result (λ receipt. by (ended_with receipt)) }
-    ensures floor { IfOk result IsOfOpenFloor }
+        IfOk result (λ receipt. by (done_with receipt)) }
+    ensures floor { IfOk result (IsOfFloor (demo applicants workers)) }
     ensures left { (files : Files) → let command = demo applicants workers in
         let same = out.new ≡ out.old in
         IfErr result (LeavesOf files command same (O.output out.old) (O.output out.new)) }
     ensures cause { (before : Files) (after : Files)
         → IfErr result (IsCause no_inputs before after) }
 {
-    let instance = generate(alloc, applicants)?;
-    let (doc, receipt) = outcome_of(rt, alloc, &instance, workers, gate)?;
+    let instance = generate_in_parallel(rt, alloc, applicants)?;
+    let (doc, receipt) = outcome_of(rt, alloc, &instance, &[], workers, gate)?;
     match put_records(alloc, &summary_records(&instance, &doc), out) {
         Ok(()) => Ok(receipt),
         Err(error) => Err(Failure::from(error)),

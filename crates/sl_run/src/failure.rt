@@ -87,6 +87,16 @@ fn put_all<E: Sink>(pieces: &[&str], err: &mut E)
     }
 }
 
+/// Puts a line for people. A fault of the sink changes nothing else.
+pub fn put_line<E: Sink>(line: &[u8], err: &mut E)
+    ensures { Reports (E.output err.old) (E.output err.new) line.now }
+{
+    match err.put(line) {
+        Ok(()) => {}
+        Err(_) => {}
+    }
+}
+
 /// Puts a failure's line for people. A fault of the sink changes nothing else.
 pub fn report<E: Sink>(failure: Failure, err: &mut E)
     ensures { Reports (E.output err.old) (E.output err.new) (line_of failure) }

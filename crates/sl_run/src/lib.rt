@@ -1,16 +1,23 @@
 //! The top call of `scorelimits`: from the words of a command to what it writes.
 #![tactic(auto)]
 
+mod amend;
+mod amendments;
 mod check;
 mod clear;
 mod command;
 mod demo;
+mod documents;
+mod done;
 mod ended;
 mod failure;
 mod files;
 mod looks;
 mod outcome;
+mod rework;
+mod round;
 mod summary;
+mod table;
 mod theorems;
 mod watch;
 mod words;

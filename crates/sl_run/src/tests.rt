@@ -6,6 +6,7 @@ use std::process::Abort;
 use std::test::Fail;
 use std::thread::Threads;
 
+mod amending;
 mod checking;
 mod clearing;
 mod demo;
@@ -37,6 +38,8 @@ const DISPLACED_TEXT: &str =
 
 const NOBODY: &str = "applicant,place,programme,score\n";
 
+const AMENDMENT_HEADER: &str = "kind,subject,place,programme,number\n";
+
 const CLEAR: [&str; 6] = ["clear", "H", "1", "pools", "programmes", "applications"];
 
 const CHECK: [&str; 6] = [
@@ -48,6 +51,26 @@ const CHECK: [&str; 6] = [
     "result",
 ];
 
+const AMEND: [&str; 8] = [
+    "amend",
+    "H",
+    "1",
+    "pools",
+    "programmes",
+    "applications",
+    "result",
+    "amendments",
+];
+
+const TABLE: [&str; 6] = [
+    "table",
+    "applications",
+    "pools",
+    "programmes",
+    "applications",
+    "amendments",
+];
+
 // The files of a command, and the numbers of the fetches that fail.
 #[derive(Clone, Copy)]
 struct Inputs<'a> {
@@ -55,6 +78,7 @@ struct Inputs<'a> {
     programmes: &'a [u8],
     applications: &'a [u8],
     document: &'a [u8],
+    amendments: &'a [u8],
     fails: &'a [u64],
 }
 
@@ -65,6 +89,7 @@ fn displaced() -> Inputs<'static> {
         programmes: TWO_PROGRAMMES.as_bytes(),
         applications: DISPLACED.as_bytes(),
         document: DISPLACED_TEXT.as_bytes(),
+        amendments: AMENDMENT_HEADER.as_bytes(),
         fails: &[],
     }
 }
@@ -113,6 +138,7 @@ fn shelf_of(alloc: Global, inputs: Inputs<'_>) -> Result<MemShelf, AllocError> {
         ("programmes", inputs.programmes),
         ("applications", inputs.applications),
         ("result", inputs.document),
+        ("amendments", inputs.amendments),
     ] {
         let name = String::from_str(alloc, name)?;
         files.push((name, Vec::from_slice(alloc, bytes)?))?;

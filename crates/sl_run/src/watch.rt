@@ -1,10 +1,10 @@
-ghost use Rattle.std.specs.Prelude.{◌≡◌, ◌≤◌, All, length, map, IfOk, IfErr};
+ghost use Rattle.std.specs.Prelude.{◌≡◌, ◌≤◌, [], All, length, map, IfOk, IfErr};
 ghost use Rattle.sl_io.specs.Shelf.{KeepsFiles};
 ghost use Rattle.sl_doc.specs.Document.{IsInRange};
 ghost use Rattle.sl_run.specs.declared.words.TheConstants.{MAX_LOOKS};
 ghost use Rattle.sl_run.specs.Words.{watch, tables_in, inputs_in, AreWorkers, AreLookCount};
 ghost use Rattle.sl_run.specs.Causes.{IsCause};
-ghost use Rattle.sl_run.specs.Receipt.{ended_with, IsClearedOn, IsOfOpenFloor};
+ghost use Rattle.sl_run.specs.Receipt.{done_with, IsClearedOn, IsOfFloor};
 ghost use Rattle.sl_run.specs.Result.{IsResultOf};
 ghost use Rattle.sl_run.specs.Run.{Performs, LeavesOf, AreLooks};
 
@@ -40,9 +40,9 @@ fn watched_of<G: Gate>(
     ensures result { IfOk result (λ w. IsResultOf instance.now w.0) }
     ensures looks { IfOk result
         (λ w. AreLooks looks w.0.limits (map (λ v. v.items) w.1.items)) }
-    ensures receipt { IfOk result (λ w. IsClearedOn instance.now w.0 w.2) }
+    ensures receipt { IfOk result (λ w. IsClearedOn instance.now [] w.0 w.2) }
 {
-    let contenders = Contenders::new(alloc, instance)?;
+    let contenders = Contenders::new_in_parallel(rt, alloc, instance)?;
     let cleared = clear(
         rt,
         alloc,
@@ -85,7 +85,7 @@ fn watched_result<G: Gate>(
     ensures result { IfOk result (λ w. IsResultOf named.now.market w.0) }
     ensures looks { IfOk result
         (λ w. AreLooks looks w.0.limits (map (λ v. v.items) w.1.items)) }
-    ensures receipt { IfOk result (λ w. IsClearedOn named.now.market w.0 w.2) }
+    ensures receipt { IfOk result (λ w. IsClearedOn named.now.market [] w.0 w.2) }
     ensures in_range { IfOk result (λ w. IsInRange named.now w.0) }
     ensures few { IfOk result (λ w. length w.1.items ≤ MAX_LOOKS) }
     ensures long { let pools = length named.now.market.pools in IfOk result
@@ -113,8 +113,8 @@ pub fn watch_to<S: Shelf, O: Sink, G: Gate>(
     requires workers { AreWorkers workers }
     ensures carried_out { let command = watch looks workers (tables_in tables.entry) in
         let by = Performs (S.files shelf.old) command (O.output out.old) (O.output out.new) in
-        IfOk result (λ receipt. by (ended_with receipt)) }
-    ensures floor { IfOk result IsOfOpenFloor }
+        IfOk result (λ receipt. by (done_with receipt)) }
+    ensures floor { IfOk result (IsOfFloor (watch looks workers (tables_in tables.entry))) }
     ensures left { let command = watch looks workers (tables_in tables.entry) in
         let same = out.new ≡ out.old in
         IfErr result

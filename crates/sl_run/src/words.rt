@@ -1,11 +1,12 @@
-ghost use Rattle.std.specs.Prelude.{◌≡◌, ◌≢◌, option_map, IfSome};
+ghost use Rattle.std.specs.Prelude.{◌≡◌, ◌≢◌, true, option_map, IfSome};
 ghost use Rattle.sl_types.specs.declared.kinds.Rule.TheVariants.{Merit};
 ghost use Rattle.sl_codes.specs.Fields.{number_within};
+ghost use Rattle.sl_amend.specs.Tables.{is_written};
 ghost use Rattle.sl_run.specs.Words.{texts_of, command_in, command_of, HasRanges};
-ghost use Rattle.sl_run.specs.Words.{clear_of, check_of, watch_of, demo_of};
-ghost use Rattle.sl_run.specs.Words.{letter_of, letter_rule};
+ghost use Rattle.sl_run.specs.Words.{clear_of, check_of, watch_of, amend_of, table_of, demo_of};
+ghost use Rattle.sl_run.specs.Words.{letter_of, letter_rule, printed_of};
 
-use sl_codes::number_within;
+use sl_codes::{Table, number_within};
 use sl_types::{MAX_APPLICANTS, Rule};
 
 /// How many workers there can be.
@@ -73,11 +74,36 @@ pub enum Command<'a> {
         workers: u32,
         tables: Tables<'a>,
     },
+    /// `amend R W pools programmes applications result amendments`
+    Amend {
+        workers: u32,
+        tables: Tables<'a>,
+        document: &'a str,
+        amendments: &'a str,
+    },
+    /// `table T pools programmes applications amendments`
+    Table {
+        printed: Table,
+        tables: Tables<'a>,
+        amendments: &'a str,
+    },
     /// `demo n W`
     Demo {
         applicants: u32,
         workers: u32,
     },
+}
+
+// The table that a word is, of those that `table` prints.
+fn printed_of(word: &str) -> Option<Table>
+    ensures table { result ≡ printed_of word.now }
+    ensures printed { IfSome result (λ t. is_written t ≡ true) }
+{
+    match word {
+        "pools" => Some(Table::Pools),
+        "applications" => Some(Table::Applications),
+        _ => None,
+    }
 }
 
 // The number from 1 to a greatest one that a word of digits is.
@@ -100,6 +126,8 @@ impl<'a> Command<'a> {
             "clear" => Command::clear_of(words),
             "check" => Command::check_of(words),
             "watch" => Command::watch_of(words),
+            "amend" => Command::amend_of(words),
+            "table" => Command::table_of(words),
             "demo" => Command::demo_of(words),
             _ => None,
         }
@@ -158,6 +186,57 @@ impl<'a> Command<'a> {
                     applications: applications.as_str(),
                 },
                 workers: count_of(workers.as_str(), MAX_WORKERS)?,
+            }),
+            _ => None,
+        }
+    }
+
+    // `R W pools programmes applications result amendments`
+    fn amend_of(words: &'a [String]) -> Option<Command<'a>>
+        ensures command { option_map (λ c. command_in c) result ≡ amend_of (texts_of words.now) }
+        ensures ranges { IfSome result (λ c. HasRanges (command_in c)) }
+    {
+        match words {
+            [
+                letter,
+                workers,
+                pools,
+                programmes,
+                applications,
+                document,
+                amendments,
+            ] => {
+                Some(Command::Amend {
+                    tables: Tables {
+                        letter: Letter::of(letter.as_str())?,
+                        pools: pools.as_str(),
+                        programmes: programmes.as_str(),
+                        applications: applications.as_str(),
+                    },
+                    workers: count_of(workers.as_str(), MAX_WORKERS)?,
+                    document: document.as_str(),
+                    amendments: amendments.as_str(),
+                })
+            }
+            _ => None,
+        }
+    }
+
+    // `T pools programmes applications amendments`. Pools of kind `score` are read with rule H.
+    fn table_of(words: &'a [String]) -> Option<Command<'a>>
+        ensures command { option_map (λ c. command_in c) result ≡ table_of (texts_of words.now) }
+        ensures ranges { IfSome result (λ c. HasRanges (command_in c)) }
+    {
+        match words {
+            [printed, pools, programmes, applications, amendments] => Some(Command::Table {
+                printed: printed_of(printed.as_str())?,
+                tables: Tables {
+                    letter: Letter::H,
+                    pools: pools.as_str(),
+                    programmes: programmes.as_str(),
+                    applications: applications.as_str(),
+                },
+                amendments: amendments.as_str(),
             }),
             _ => None,
         }

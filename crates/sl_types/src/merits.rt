@@ -160,6 +160,15 @@ fn take_keys(
     Ok(())
 }
 
+// How many keys to make room for: one for each applicant, where some programme is in a tree.
+fn room_for_keys(trees: &[Option<u32>], lists: &[Vec<Entry>]) -> usize {
+    if trees.iter().any(|tree| tree.is_some()) {
+        lists.len()
+    } else {
+        0
+    }
+}
+
 // The first applicant who has a key of one of lower number.
 pub fn first_tied(
     alloc: Global,
@@ -171,7 +180,7 @@ pub fn first_tied(
         let is_tied = is_key_taken trees.now rows in
         IfOk result (λ at. at ≡ position is_tied (range_with_len 0 (length lists.now))) }
 {
-    let mut taken = HashSet::new(alloc);
+    let mut taken = HashSet::with_capacity(alloc, room_for_keys(trees, lists))?;
     for at in 0..lists.len() {
         let list = list_at(lists, at);
         if has_taken(trees, &taken, list) {

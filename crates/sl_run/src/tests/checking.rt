@@ -8,6 +8,7 @@ fn expect_checked<R: Abort + AllocGlobal + Threads + Sync>(
 ) -> Result<(), Fail> {
     let inputs = Inputs {
         document: document.as_bytes(),
+        amendments: &[],
         ..displaced()
     };
     expect(rt, document, &CHECK, inputs, ending)
@@ -67,6 +68,7 @@ fn swapped_admissions(rt: HostRuntime) -> Result<(), Fail> {
     let inputs = Inputs {
         applications: "applicant,place,programme,score\nx,1,a,5\nx,2,b,6\ny,1,b,5\ny,2,a,6\n".as_bytes(),
         document: "result,1,,\nrule,H,,\nlimit,A,6,1\nlimit,B,6,1\nadmit,x,2,b\nadmit,y,2,a\nend,6,,\n".as_bytes(),
+        amendments: &[],
         ..displaced()
     };
     expect(

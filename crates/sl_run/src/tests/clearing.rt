@@ -19,6 +19,7 @@ impl Case {
             programmes: self.programmes.as_bytes(),
             applications: self.applications.as_bytes(),
             document: &[],
+            amendments: &[],
             fails: &[],
         }
     }

@@ -1,11 +1,16 @@
 use super::clearing::{Case, expect_cleared};
 use super::*;
 
-const TREE: &str = "pool,quota,parent,kind\nR,2,,merit\nC,1,R,merit\nD,2,R,merit\n";
+pub const TREE: &str = "pool,quota,parent,kind\nR,2,,merit\nC,1,R,merit\nD,2,R,merit\n";
 
-const FIELDS: &str = "programme,pool\nc,C\nd,D\n";
+pub const FIELDS: &str = "programme,pool\nc,C\nd,D\n";
 
-const NESTED: &str = "applicant,place,programme,score\nm9,1,c,9\nm8,1,c,8\nm7,1,d,7\nm6,1,d,6\n";
+pub const NESTED: &str =
+    "applicant,place,programme,score\nm9,1,c,9\nm8,1,c,8\nm7,1,d,7\nm6,1,d,6\n";
+
+pub const NESTED_TEXT: &str =
+    "result,1,,\nrule,H,,\nlimit,R,7,2\nlimit,C,9,1\nlimit,D,7,1\nadmit,m9,1,c\nadmit,m8,0,\n\
+        admit,m7,1,d\nadmit,m6,0,\nraise,R,7,\nraise,C,9,\nend,11,,\n";
 
 #[test]
 fn nested_examples(rt: HostRuntime) -> Result<(), Fail> {
@@ -16,8 +21,7 @@ fn nested_examples(rt: HostRuntime) -> Result<(), Fail> {
             pools: TREE,
             programmes: FIELDS,
             applications: NESTED,
-            text: "result,1,,\nrule,H,,\nlimit,R,7,2\nlimit,C,9,1\nlimit,D,7,1\nadmit,m9,1,c\n\
-                admit,m8,0,\nadmit,m7,1,d\nadmit,m6,0,\nraise,R,7,\nraise,C,9,\nend,11,,\n",
+            text: NESTED_TEXT,
         },
         Case {
             name: "a tree beside a pool of rule H",
@@ -59,6 +63,7 @@ fn other_proofs_of_the_nested_pools(rt: HostRuntime) -> Result<(), Fail> {
             programmes: FIELDS.as_bytes(),
             applications: NESTED.as_bytes(),
             document: document.as_bytes(),
+            amendments: &[],
             fails: &[],
         };
         expect(&rt, raises, &CHECK, inputs, done("verdict,Yes,,\n"))?;
@@ -110,6 +115,7 @@ fn merits_in_conflict(rt: HostRuntime) -> Result<(), Fail> {
             programmes: programmes.as_bytes(),
             applications: applications.as_bytes(),
             document: &[],
+            amendments: &[],
             fails: &[],
         };
         expect(&rt, rows, &CLEAR, inputs, refused(line))?;
@@ -143,6 +149,7 @@ fn deepest_tree(rt: HostRuntime) -> Result<(), Fail> {
             programmes: programmes.as_bytes(),
             applications: "applicant,place,programme,score\nx,1,a,5\ny,1,a,4\n".as_bytes(),
             document: &[],
+            amendments: &[],
             fails: &[],
         };
         expect(&rt, "deepest tree", &CLEAR, inputs, ending)?;

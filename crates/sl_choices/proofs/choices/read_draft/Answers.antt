@@ -23,8 +23,8 @@ rows-init c =
       rw rest (read_to-header (choice_form c.args.progs.now) (records_of c.args.bytes.now) header),
       rw (made.codes, made.rows) (draft_none c.args.progs.now),
       rw (made.codes, made.rows) kept_none,
-      rw (made.codes, made.last) refl,
-      made.linked,
+      rw (made.codes, made.marks) refl,
+      made.marked,
     )
 
 pub returns-in-Err-clause-refused : goal.returns-in-Err-clause-refused
@@ -35,7 +35,7 @@ returns-in-Err-clause-refused c =
     let next = rw c.if-branch.true at c.in_ok-next.ensures.ok in
     let rows = ap length inv.2.rows_are ∙ length-map inv.0 (choice_of progs c.rows.draft.codes) in
     let taken : c.len-before.result ≡ length inv.0 = omega (arith, rows) in
-    let alike = causes_alike progs inv.0 c.rows.draft.codes c.rows.draft.chains.rows.items row inv.2 in
+    let alike = causes_alike progs inv.0 c.rows.draft.codes c.rows.draft.table.chains.rows.items row inv.2 in
     rw (c.after.ensures, taken)
     (read_to-wrong (choice_form progs) (records_of c.args.bytes.now) inv.0 c.rows.records row c.next.new.self c.in-Err.e inv.1 next (rw alike c.in-Err.ensures.wrong))
 
@@ -44,7 +44,7 @@ rows-preserved c =
     let inv = c.rows.invariant in
     let progs = c.args.progs.now in
     let apps = c.rows.draft.codes in
-    let rows = c.rows.draft.chains.rows.items in
+    let rows = c.rows.draft.table.chains.rows.items in
     let row = fields_of c.next.new.row in
     let next = rw c.if-branch.true at c.in_ok-next.ensures.ok in
     let ok = c.in_default.ensures in
@@ -55,7 +55,7 @@ rows-preserved c =
       rw (ok.codes, ok.rows) (draft_push progs inv.0 apps rows row inv.2 (prog_known progs apps rows row ok.right)),
       rw (ok.codes, ok.rows) (kept_push progs apps rows row inv.3 ok.right few),
       ok.each,
-      ok.linked,
+      ok.marked,
     )
 
 pub returns-clause-right : goal.returns-clause-right

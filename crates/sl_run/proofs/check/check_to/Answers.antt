@@ -42,7 +42,7 @@ returns-clause-left g c = rw c.from.ensures
         text = text_of_record (verdict_record c.in_ok-named.named c.in_ok-named.verdict);
         comes = (c.in_ok-named.ensures.judged told, refl, refl);
         put = c.in-Err.ensures.part;
-        ends = tt;
+        ends = refl;
       },
     )))
 

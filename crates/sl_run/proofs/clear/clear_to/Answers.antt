@@ -35,7 +35,7 @@ returns-in-Ok-clause-carried_out g c = λ told. record {
 }
 
 pub returns-in-Ok-clause-floor : goal.returns-in-Ok-clause-floor
-returns-in-Ok-clause-floor g c = record { kept = c.in_ok-doc.ensures.receipt.floor.kept_is; whole = c.in_ok-doc.ensures.receipt.whole }
+returns-in-Ok-clause-floor g c = record { kept = λ anew. c.in_ok-doc.ensures.receipt.floor.kept_is; whole = c.in_ok-doc.ensures.receipt.whole }
 
 pub returns-clause-left : goal.returns-clause-left
 returns-clause-left g c = rw c.from.ensures
@@ -51,7 +51,7 @@ returns-clause-left g c = rw c.from.ensures
         text = result_text c.in_ok-named.named (letter_rule c.args.tables.letter) c.in_ok-doc.doc;
         comes = (c.in_ok-doc.doc, record { valid = c.in_ok-named.ensures.valid; named = c.in_ok-named.ensures.named; result = c.in_ok-doc.ensures.result }, c.in_ok-doc.ensures.receipt, refl);
         put = rw (sym c.rule.ensures.rule) c.in-Err.ensures.part;
-        ends = tt;
+        ends = refl;
       },
     )))
 

@@ -1,8 +1,9 @@
 use Rattle.std.proofs.Common.{◌≡◌, refl, sym, inl, inr}
 use Rattle.std.proofs.lemmas.Result.{IfOk-weaker, IfErr-weaker}
 use Rattle.sl_run.specs.Words.{texts_of, command_in}
+use Rattle.sl_run.specs.Ending.{ending_in}
 use Rattle.sl_run.specs.Run.{PerformsPart, BreaksOff}
-use Rattle.sl_run.proofs.Ending.{low_status, no_words, receipt_of, demo_files}
+use Rattle.sl_run.proofs.Ending.{low_status, no_words, receipt_of, floor_for, demo_files}
 use Rattle.sl_run.proofs.Writing.{leaves_on}
 use Rattle.sl_run.proofs.command.perform.Goals as goal
 
@@ -17,7 +18,7 @@ returns-in-Some-clause-done g c =
 pub returns-in-Some-clause-low : goal.returns-in-Some-clause-low
 returns-in-Some-clause-low g c =
     IfOk-weaker c.carry_out.result _ _
-    (λ ended done. low_status (texts_of c.args.words.now) ended.status (command_in c.in-Some.command, sym c.in-Some.ensures.command, done)) c.carry_out.ensures.done
+    (λ done can. low_status (texts_of c.args.words.now) (ending_in done) (command_in c.in-Some.command, sym c.in-Some.ensures.command, can)) c.carry_out.ensures.done
 
 pub returns-in-Some-clause-left : goal.returns-in-Some-clause-left
 returns-in-Some-clause-left g c =
@@ -37,7 +38,12 @@ returns-in-Some-clause-cause g c =
 pub returns-in-Some-clause-receipt : goal.returns-in-Some-clause-receipt
 returns-in-Some-clause-receipt g c =
     IfOk-weaker c.carry_out.result _ _
-    (λ ended answers. receipt_of (texts_of c.args.words.now) (command_in c.in-Some.command) (sym c.in-Some.ensures.command) ended answers) c.carry_out.ensures.receipt
+    (λ done answers. receipt_of (texts_of c.args.words.now) (command_in c.in-Some.command) (sym c.in-Some.ensures.command) done.status done.receipt answers) c.carry_out.ensures.receipt
+
+pub returns-in-Some-clause-floor : goal.returns-in-Some-clause-floor
+returns-in-Some-clause-floor g c =
+    IfOk-weaker c.carry_out.result _ _
+    (λ done floor. floor_for (texts_of c.args.words.now) (command_in c.in-Some.command) (sym c.in-Some.ensures.command) done.receipt floor) c.carry_out.ensures.floor
 
 pub returns-in-Some-clause-fetchless : goal.returns-in-Some-clause-fetchless
 returns-in-Some-clause-fetchless g c = λ demo.

@@ -33,7 +33,7 @@ returns-in-Ok-clause-carried_out g c = λ files told.
     }
 
 pub returns-in-Ok-clause-floor : goal.returns-in-Ok-clause-floor
-returns-in-Ok-clause-floor g c = record { kept = c.in_ok-doc.ensures.receipt.floor.kept_is; whole = c.in_ok-doc.ensures.receipt.whole }
+returns-in-Ok-clause-floor g c = record { kept = λ anew. c.in_ok-doc.ensures.receipt.floor.kept_is; whole = c.in_ok-doc.ensures.receipt.whole }
 
 pub returns-clause-left : goal.returns-clause-left
 returns-clause-left g c = λ files.
@@ -53,7 +53,7 @@ returns-clause-left g c = λ files.
         text = summary_text market doc.limits;
         comes = (doc, record { market = c.in_ok-instance.ensures; result = c.in_ok-doc.ensures.result }, c.in_ok-doc.ensures.receipt, refl);
         put = subst (TakesPart before after) (ap (flat_map text_of_record) c.summary_records.ensures) c.in-Err.ensures.part;
-        ends = tt;
+        ends = refl;
       },
     )))
 

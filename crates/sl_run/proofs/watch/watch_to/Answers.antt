@@ -41,7 +41,7 @@ returns-in-Ok-clause-carried_out g c = λ told.
     }
 
 pub returns-in-Ok-clause-floor : goal.returns-in-Ok-clause-floor
-returns-in-Ok-clause-floor g c = record { kept = c.in_ok-doc.ensures.receipt.floor.kept_is; whole = c.in_ok-doc.ensures.receipt.whole }
+returns-in-Ok-clause-floor g c = record { kept = λ anew. c.in_ok-doc.ensures.receipt.floor.kept_is; whole = c.in_ok-doc.ensures.receipt.whole }
 
 pub returns-clause-left : goal.returns-clause-left
 returns-clause-left g c =
@@ -61,7 +61,7 @@ returns-clause-left g c =
         text = looks_text n seen ++ result_text n (letter_rule c.args.tables.letter) doc;
         comes = (doc, seen, record { valid = c.in_ok-named.ensures.valid; named = c.in_ok-named.ensures.named; result = c.in_ok-doc.ensures.result }, c.in_ok-doc.ensures.looks, c.in_ok-doc.ensures.receipt, refl);
         put = rw (sym c.rule.ensures.rule, sym c.deref.ensures.value) c.in-Err.ensures.part;
-        ends = tt;
+        ends = refl;
       },
     )))
 

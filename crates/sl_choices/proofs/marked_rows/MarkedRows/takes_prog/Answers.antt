@@ -1,0 +1,10 @@
+use Rattle.std.proofs.Common.{◌≡◌, ◌∙◌, nat_eq, reverse}
+use Rattle.sl_choices.specs.Rows.{rows_of_app}
+use Rattle.sl_choices.proofs.Numbers.{any_reversed}
+use Rattle.sl_choices.proofs.marked_rows.MarkedRows.takes_prog.Goals as goal
+
+pub returns : goal.returns
+returns c =
+    let rows = rows_of_app c.args.app.0 c.args.self.now.chains.rows.items in
+    let own : c.deref.result.now ≡ reverse rows = c.deref.ensures.value ∙ c.in_ok-find_own.ensures in
+    c.takes_prog.ensures ∙ rw own (any_reversed (λ row. nat_eq row.prog.0 c.args.prog) rows)
