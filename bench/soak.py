@@ -51,7 +51,8 @@ def fault(program, letter, workers, tables, folder):
         return f"status {one.returncode} with one worker, {many.returncode} with {workers}"
     if records(one.stdout) != records(many.stdout):
         return f"another result with {workers} workers"
-    if letter == "H" and os.path.exists(PLAIN) and records(run([PLAIN, letter, *tables]).stdout) != records(one.stdout):
+    plain = run([PLAIN, letter, *tables]) if letter == "H" and os.path.exists(PLAIN) else one
+    if records(plain.stdout) != records(one.stdout):
         return "another result than that of the plain program"
     document = os.path.join(folder, "result.csv")
     with open(document, "wb") as file:
@@ -62,21 +63,31 @@ def fault(program, letter, workers, tables, folder):
     return None
 
 
-def main(words):
+def rounds_of(words, name):
+    """The rounds of a soak, each with its program, its seed, and the folder that its tables are written into."""
     rounds, first = (int(words[at]) if len(words) > at else default for at, default in ((0, 1000), (1, 1)))
     program = words[2] if len(words) > 2 else PROGRAM
-    start = time.monotonic()
+    folder = os.path.join(tempfile.gettempdir(), name)
     for seed in range(first, first + rounds):
-        folder = os.path.join(tempfile.gettempdir(), "scorelimits-soak")
         pools, programmes, applicants, choices, depth, share = words_of(seed)
         sizes = [pools, programmes, applicants, choices, folder, seed, depth, share]
         make_tables([str(word) for word in sizes])
-        tables = [os.path.join(folder, name) for name in TABLES]
+        yield program, seed, folder, [os.path.join(folder, name) for name in TABLES]
+
+
+def time_since(start):
+    return f"{time.monotonic() - start:.0f} s, {os.cpu_count()} cores"
+
+
+def main(words):
+    start = time.monotonic()
+    rounds = 0
+    for program, seed, folder, tables in rounds_of(words, "scorelimits-soak"):
         wrong = fault(program, "HL"[seed % 2], 2 + seed % 7, tables, folder)
         if wrong:
             sys.exit(f"seed {seed}, tables in {folder}: {wrong}")
-    print(f"{rounds} rounds from seed {first} on: the same results, and each checked "
-          f"({time.monotonic() - start:.0f} s, {os.cpu_count()} cores)")
+        rounds += 1
+    print(f"{rounds} rounds: the same results, and each checked ({time_since(start)})")
 
 
 if __name__ == "__main__":

@@ -13,12 +13,10 @@ first round that fails is left where it is, and the status is 1.
 import csv
 import os
 import sys
-import tempfile
 import time
 
-from make_tables import Numbers, main as make_tables
-from measure import PROGRAM, TABLES
-from soak import records, run, words_of
+from make_tables import Numbers
+from soak import records, rounds_of, run, time_since
 
 KINDS = ("quota", "new", "add", "drop", "withdraw", "score")
 HEADER = ("kind", "subject", "place", "programme", "number")
@@ -80,7 +78,7 @@ def fault(program, letter, workers, tables, folder, amendments):
     renewed = [pools, tables[1], applications]
     cleared = run([program, "clear", letter, "1", *renewed])
     if cleared.returncode or records(cleared.stdout) != records(amended.stdout):
-        return True, f"another result than a clearing of the amended tables, whose status is {cleared.returncode}"
+        return True, f"another result than clearing the amended tables, whose status is {cleared.returncode}"
     document = write(folder, "amended-result.csv", amended.stdout)
     verdict = run([program, "check", letter, *renewed, document])
     if verdict.returncode or verdict.stdout != b"verdict,Yes,,\n":
@@ -89,23 +87,18 @@ def fault(program, letter, workers, tables, folder, amendments):
 
 
 def main(words):
-    rounds, first = (int(words[at]) if len(words) > at else default for at, default in ((0, 1000), (1, 1)))
-    program = words[2] if len(words) > 2 else PROGRAM
     start = time.monotonic()
+    rounds = 0
     accepted = 0
-    for seed in range(first, first + rounds):
-        folder = os.path.join(tempfile.gettempdir(), "scorelimits-soak-amendments")
-        pools, programmes, applicants, choices, depth, share = words_of(seed)
-        sizes = [pools, programmes, applicants, choices, folder, seed, depth, share]
-        make_tables([str(word) for word in sizes])
-        tables = [os.path.join(folder, name) for name in TABLES]
+    for program, seed, folder, tables in rounds_of(words, "scorelimits-soak-amendments"):
         amendments = write_amendments(folder, tables, Numbers(seed * 40503))
         is_accepted, wrong = fault(program, "HL"[seed % 2], 1 + seed % 8, tables, folder, amendments)
         if wrong:
             sys.exit(f"seed {seed}, tables in {folder}: {wrong}")
+        rounds += 1
         accepted += is_accepted
-    print(f"{rounds} rounds from seed {first} on, {accepted} amended and {rounds - accepted} refused: each as a clearing "
-          f"of its amended tables ({time.monotonic() - start:.0f} s, {os.cpu_count()} cores)")
+    print(f"{rounds} rounds, {accepted} amended and {rounds - accepted} refused: each as a clearing of its amended "
+          f"tables ({time_since(start)})")
 
 
 if __name__ == "__main__":

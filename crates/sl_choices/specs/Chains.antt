@@ -3,7 +3,7 @@
 use Rattle.std.specs.Prelude.{◌≡◌, ◌≤◌, ◌<◌, ◌-◌, ℕ, List, length, take, get_or}
 use Rattle.sl_choices.specs.declared.chains.Chains.{Chains}
 use Rattle.sl_choices.specs.declared.choices.ChoiceRow.{ChoiceRow}
-use Rattle.sl_choices.specs.Rows.{rows_of_app}
+use Rattle.sl_choices.specs.Rows.{rows_of_app, IsChoiceList}
 
 -- what stands at a link to no row
 abbrev pub no_row : ChoiceRow
@@ -25,3 +25,9 @@ pub record AreLinked (rows : List ChoiceRow) (last before : List ℕ) : Type 0 w
 -- the rows of a table are linked
 abbrev pub HasLinks : Chains → Type 0
 HasLinks chains = AreLinked chains.rows.items chains.last.items chains.before.items
+
+-- a table that was read keeps its rows, and links for each applicant of these codes
+pub record AreKept (codes : List (List ℕ)) (chains : Chains) : Type 0 where
+  pub right : IsChoiceList (record { codes = codes; rows = chains.rows.items })
+  pub linked : HasLinks chains
+  pub each : length chains.last.items ≡ length codes

@@ -1,15 +1,17 @@
-ghost use Rattle.std.specs.Prelude.{◌≡◌, None, OnOk, IfOk, IfErr};
+ghost use Rattle.std.specs.Prelude.{◌≡◌, ◌<◌, None, length, reverse, OnOk, IfOk, IfErr};
 ghost use Rattle.sl_codes.specs.Faults.{first_fault, IsFirst};
 ghost use Rattle.sl_codes.specs.Records.{records_of, rows_of};
 ghost use Rattle.sl_choices.specs.Choices.{choice_form, choices_of};
-ghost use Rattle.sl_choices.specs.Rows.{IsDraft, IsChoiceList, NameKnown};
+ghost use Rattle.sl_choices.specs.Marks.{HasMarks};
+ghost use Rattle.sl_choices.specs.Rows.{rows_of_app, IsDraft, IsChoiceList, NameKnown};
 
+use crate::chains::Chains;
 use crate::draft::Draft;
 use csv::ByteRecord;
 use sl_codes::{Codes, ReadError, Records, Table, read_header};
 use sl_pools::{PoolTable, ProgTable};
 use sl_types::{AppId, ProgId};
-use std::alloc::Global;
+use std::alloc::{AllocError, Global};
 use std::marker::Model;
 
 pub const HEADER: [&str; 4] = ["applicant", "place", "programme", "score"];
@@ -23,22 +25,23 @@ pub struct ChoiceRow {
     pub score: u32,
 }
 
-/// The choices of a table in the order of its records, and the codes of the applicants in first-seen order.
+/// The choices of a table in the order of its records, linked by applicant, and the codes of the applicants in
+/// first-seen order.
 #[derive(Drop)]
 pub struct ChoiceTable {
     codes: Codes,
-    rows: Vec<ChoiceRow>,
+    chains: Chains,
 }
 
 impl Model for ChoiceTable {
     ghost use Rattle.sl_choices.specs.Choices.{ChoiceList};
-    ghost use Rattle.sl_choices.specs.Rows.{IsChoiceList};
+    ghost use Rattle.sl_choices.specs.Chains.{AreKept};
 
     ghost Value = { ChoiceList };
 
-    ghost view = { λ s. record { codes = s.codes; rows = s.rows.items } };
+    ghost view = { λ s. record { codes = s.codes; rows = s.chains.rows.items } };
 
-    ghost invariant = { λ s. IsChoiceList (record { codes = s.codes; rows = s.rows.items }) };
+    ghost invariant = { λ s. AreKept s.codes s.chains };
 }
 
 impl ChoiceTable {
@@ -54,16 +57,23 @@ impl ChoiceTable {
         ensures rows { result.now ≡ self.now.rows }
         ensures right { IsChoiceList self.now }
     {
-        self.rows.as_slice()
+        self.chains.rows.as_slice()
     }
 
-    /// The codes and the choices.
-    pub fn into_parts(self) -> (Codes, Vec<ChoiceRow>)
-        ensures codes { result.0 ≡ self.codes }
-        ensures rows { result.1.items ≡ self.rows }
+    /// Puts the choices of an applicant into `own`, from the last of the table to the first.
+    pub fn find_own(&self, app: AppId, own: &mut Vec<ChoiceRow>) -> Result<(), AllocError>
+        requires { app.0 < length self.now.codes }
+        ensures { OnOk result (own.new.items ≡ reverse (rows_of_app app.0 self.now.rows)) }
+    {
+        self.chains.find_own(app, own)
+    }
+
+    /// The codes alone.
+    pub fn into_codes(self) -> Codes
+        ensures codes { result ≡ self.codes }
         ensures right { IsChoiceList self }
     {
-        (self.codes, self.rows)
+        self.codes
     }
 }
 
@@ -75,6 +85,9 @@ fn read_draft(alloc: Global, bytes: &[u8], progs: &Codes) -> Result<Draft, ReadE
         (λ draft. IsDraft progs.now (rows_of bytes.now) draft.codes draft.table.chains.rows.items) }
     ensures kept { IfOk result (λ draft. let rows = draft.table.chains.rows.items in
         IsChoiceList (record { codes = draft.codes; rows = rows })) }
+    ensures each { IfOk result
+        (λ draft. length draft.table.marks.items ≡ length draft.codes) }
+    ensures marked { IfOk result (λ draft. HasMarks draft.table) }
     ensures refused { let fault = first_fault (choice_form progs.now) (records_of bytes.now) in
         IfErr result (IsFirst fault) }
 {
@@ -114,6 +127,6 @@ pub fn read_choices(
     } = read_draft(alloc, bytes, progs.codes())?;
     Ok(ChoiceTable {
         codes,
-        rows: table.chains.rows,
+        chains: table.chains,
     })
 }

@@ -122,8 +122,6 @@ fn rows_apart(rt: HostRuntime) -> Result<(), Fail> {
     assert_eq!(rt; table.codes().find("y,1"), Some(0));
     assert_eq!(rt; table.codes().find("x"), Some(1));
     assert_eq!(rt; table.codes().find("y"), Some(2));
-    let (codes, found) = table.into_parts();
-    assert_eq!(rt; codes.len(), 3);
     let mut wanted = Vec::new(rt.alloc());
     for (app, place, prog, score) in [
         (0, 7, 2, 0),
@@ -138,7 +136,13 @@ fn rows_apart(rt: HostRuntime) -> Result<(), Fail> {
             score,
         })?;
     }
-    assert_eq!(rt; found.as_slice(), wanted.as_slice());
+    assert_eq!(rt; table.rows(), wanted.as_slice());
+    let mut own = Vec::new(rt.alloc());
+    table.find_own(AppId(0), &mut own)?;
+    assert_eq!(rt; own.len(), 2);
+    assert_eq!(rt; own.first(), wanted.last());
+    assert_eq!(rt; own.last(), wanted.first());
+    assert_eq!(rt; table.into_codes().len(), 3);
     Ok(())
 }
 

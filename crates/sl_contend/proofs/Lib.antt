@@ -14,3 +14,4 @@ pub mod Tables
 pub mod Lawful
 pub mod Halves
 pub mod Ranged
+pub mod RowByRow

@@ -5,11 +5,11 @@ ghost use Rattle.sl_types.specs.Market.{list_of, lies_in};
 ghost use Rattle.sl_laws.specs.Stable.{is_choice_in, leads, feeds};
 ghost use Rattle.sl_contend.specs.Contention.{contenders_of, is_lead, feeding, fed_by, number_of_app, number_of_pool, HoldEach};
 ghost use Rattle.sl_contend.specs.Entering.{EntersPool, up_to_last};
-ghost use Rattle.sl_contend.specs.Pieces.{HoldContenders, HoldFed};
+ghost use Rattle.sl_contend.specs.Pieces.{HoldContenders, HoldFed, HoldFeeding};
 
 use crate::entering;
 use crate::filling::Filling;
-use crate::rows::{Placed, Rows, bucket, row};
+use crate::rows::{Rows, row};
 use sl_types::{AppId, Entry, Instance, MAX_LIST, PoolId};
 use std::alloc::{AllocError, Global};
 
@@ -19,7 +19,7 @@ pub fn contenders_among(
     instance: &Instance,
     first: usize,
     end: usize,
-) -> Result<Vec<Placed<AppId>>, AllocError>
+) -> Result<Rows<AppId>, AllocError>
     requires order { first ≤ end }
     requires within { end ≤ length instance.now.lists }
     ensures { IfOk result (HoldContenders instance.now first end) }
@@ -30,15 +30,14 @@ pub fn contenders_among(
         let app = AppId(number as u32);
         entering::enter_choices(instance, &mut rows, instance.list(app), app)?;
     }
-    Ok(rows.into_placed())
+    entering::finish(alloc, &rows)
 }
 
 // For each pool the applicants who have a choice in it.
 pub fn contenders(alloc: Global, instance: &Instance) -> Result<Rows<AppId>, AllocError>
     ensures { IfOk result (HoldEach number_of_app instance.now (contenders_of instance.now)) }
 {
-    let placed = contenders_among(alloc, instance, 0, instance.applicants())?;
-    bucket(alloc, instance.pools(), &placed)
+    contenders_among(alloc, instance, 0, instance.applicants())
 }
 
 // Whether a choice is in a pool.
@@ -95,7 +94,7 @@ pub fn fed_among(
     of: &Rows<AppId>,
     first: usize,
     end: usize,
-) -> Result<Vec<Placed<PoolId>>, AllocError>
+) -> Result<Rows<PoolId>, AllocError>
     requires of { HoldEach number_of_app instance.now (contenders_of instance.now) of.now }
     requires order { first ≤ end }
     requires within { end ≤ length instance.now.pools }
@@ -107,7 +106,7 @@ pub fn fed_among(
         let pool = PoolId(number as u32);
         enter_feeders(instance, &mut rows, row(of, count, pool), pool)?;
     }
-    Ok(rows.into_placed())
+    entering::finish(alloc, &rows)
 }
 
 // For each pool the pools that it feeds.
@@ -115,8 +114,7 @@ pub fn fed(alloc: Global, instance: &Instance, of: &Rows<AppId>) -> Result<Rows<
     requires { HoldEach number_of_app instance.now (contenders_of instance.now) of.now }
     ensures { IfOk result (HoldEach number_of_pool instance.now (fed_by instance.now)) }
 {
-    let placed = fed_among(alloc, instance, of, 0, instance.pools())?;
-    bucket(alloc, instance.pools(), &placed)
+    fed_among(alloc, instance, of, 0, instance.pools())
 }
 
 // Enters a pool into each row of a list of pools.
@@ -132,6 +130,28 @@ fn enter_each(rows: &mut Filling<PoolId>, pools: &[PoolId], pool: PoolId) -> Res
     Ok(())
 }
 
+// The pools of a range, each in every other pool that it feeds.
+pub fn feeds_among(
+    alloc: Global,
+    instance: &Instance,
+    fed: &Rows<PoolId>,
+    first: usize,
+    end: usize,
+) -> Result<Rows<PoolId>, AllocError>
+    requires fed { HoldEach number_of_pool instance.now (fed_by instance.now) fed.now }
+    requires order { first ≤ end }
+    requires within { end ≤ length instance.now.pools }
+    ensures { IfOk result (HoldFeeding instance.now first end) }
+{
+    let count = instance.pools();
+    let mut rows = entering::empty_rows(alloc, count)?;
+    for number in first..end {
+        let pool = PoolId(number as u32);
+        enter_each(&mut rows, row(fed, count, pool), pool)?;
+    }
+    entering::finish(alloc, &rows)
+}
+
 // For each pool the pools that feed it.
 pub fn feeds(
     alloc: Global,
@@ -141,11 +161,5 @@ pub fn feeds(
     requires { HoldEach number_of_pool instance.now (fed_by instance.now) fed.now }
     ensures { IfOk result (HoldEach number_of_pool instance.now (feeding instance.now)) }
 {
-    let count = instance.pools();
-    let mut rows = entering::empty_rows(alloc, count)?;
-    for number in 0..count {
-        let pool = PoolId(number as u32);
-        enter_each(&mut rows, row(fed, count, pool), pool)?;
-    }
-    entering::finish(alloc, &rows)
+    feeds_among(alloc, instance, fed, 0, instance.pools())
 }

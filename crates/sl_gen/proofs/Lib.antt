@@ -6,4 +6,4 @@ pub mod Sizes
 pub mod Listed
 pub mod MeritPools
 pub mod Fits
-mod Collected
+mod Between

@@ -1,5 +1,5 @@
 -- The choices of the applicants of a generated round.
-use Rattle.std.specs.Prelude.{ℕ, ◌+◌, ◌*◌, ◌/◌, ◌%◌, if◌then◌else◌, List, map}
+use Rattle.std.specs.Prelude.{ℕ, ◌+◌, ◌-◌, ◌*◌, ◌/◌, ◌%◌, if◌then◌else◌, List, map}
 use Rattle.std.specs.List.{range_with_len}
 use Rattle.sl_types.specs.declared.kinds.Entry.{Entry}
 use Rattle.sl_types.specs.Rules.{is_merit}
@@ -36,3 +36,7 @@ choice_numbered progs a j = record {
 -- the list of applicant a
 abbrev pub choices_of : ℕ → ℕ → List Entry
 choices_of progs a = map (choice_numbered progs a) (range_with_len 0 (choice_count a))
+
+-- the lists of the applicants from `first` up to `end`
+abbrev pub lists_between : ℕ → ℕ → ℕ → List (List Entry)
+lists_between progs first end = map (choices_of progs) (range_with_len first (end - first))

@@ -1,13 +1,10 @@
-ghost use Rattle.std.specs.Prelude.{◌≡◌, ◌≤◌, ◌<◌, map, IfOk};
-ghost use Rattle.std.specs.List.{range_with_len};
+ghost use Rattle.std.specs.Prelude.{◌≡◌, ◌≤◌, ◌<◌, OnOk};
 ghost use Rattle.sl_gen.specs.Choices.{choice_numbered, choices_of, merit_of, points_of};
 ghost use Rattle.sl_gen.specs.Choices.{prog_chosen, score_of};
 
 use crate::pools::rule_of_pool;
-use rayon::prelude::*;
 use sl_types::{Entry, MAX_APPLICANTS, MAX_PROGRAMMES, ProgId, Rule};
-use std::alloc::{AllocError, Global};
-use std::thread::Threads;
+use std::alloc::AllocError;
 
 // The programme of a choice, where there are so many programmes.
 fn prog_chosen(progs: u32, app: u32, choice: u32) -> u32
@@ -63,53 +60,16 @@ fn choice_numbered(progs: u32, app: u32, choice: u32) -> Entry
     }
 }
 
-// The list of an applicant.
-fn choices_of(alloc: Global, progs: u32, app: u32) -> Result<Vec<Entry>, AllocError>
+// Puts the list of an applicant into `choices`.
+pub fn choose(choices: &mut Vec<Entry>, progs: u32, app: u32) -> Result<(), AllocError>
     requires some { 0 < progs }
     requires few { progs ≤ MAX_PROGRAMMES }
     requires app { app < MAX_APPLICANTS }
-    ensures { IfOk result (λ v. v.items ≡ choices_of progs app) }
+    ensures { OnOk result (choices.new.items ≡ choices_of progs app) }
 {
-    (0..1 + app % 6)
-        .map(|choice| choice_numbered(progs, app, choice))
-        .collect(alloc)
-}
-
-// The lists of so many applicants.
-pub fn lists(alloc: Global, progs: u32, applicants: u32) -> Result<Vec<Vec<Entry>>, AllocError>
-    requires some { 0 < progs }
-    requires few { progs ≤ MAX_PROGRAMMES }
-    requires applicants { applicants ≤ MAX_APPLICANTS }
-    ensures { let each = map (choices_of progs) (range_with_len 0 applicants) in
-        IfOk result (λ lists. map (λ l. l.items) lists.items ≡ each) }
-{
-    let mut lists = Vec::with_capacity(alloc, applicants as usize)?;
-    for app in 0..applicants {
-        lists.push(choices_of(alloc, progs, app)?)?;
+    choices.clear();
+    for choice in 0..1 + app % 6 {
+        choices.push(choice_numbered(progs, app, choice))?;
     }
-    Ok(lists)
-}
-
-// The same, made by pieces of the applicants in parallel.
-pub fn lists_in_parallel(
-    rt: &(impl Threads + Sync),
-    alloc: Global,
-    progs: u32,
-    applicants: u32,
-) -> Result<Vec<Vec<Entry>>, AllocError>
-    requires some { 0 < progs }
-    requires few { progs ≤ MAX_PROGRAMMES }
-    requires applicants { applicants ≤ MAX_APPLICANTS }
-    ensures { let each = map (choices_of progs) (range_with_len 0 applicants) in
-        IfOk result (λ lists. map (λ l. l.items) lists.items ≡ each) }
-{
-    (0..applicants as usize)
-        .into_par_iter()
-        .map(
-            |app: usize| -> Result<Vec<Entry>, AllocError>
-                requires { (0 < progs) × (progs ≤ MAX_PROGRAMMES) × (app < MAX_APPLICANTS) }
-                ensures { IfOk result (λ v. v.items ≡ choices_of progs app) }
-            { choices_of(alloc, progs, app as u32) },
-        )
-        .collect::<Result<Vec<Vec<Entry>>, AllocError>>(rt, alloc)?
+    Ok(())
 }

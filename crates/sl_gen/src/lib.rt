@@ -2,6 +2,7 @@
 #![tactic(auto)]
 
 mod choices;
+mod lists;
 mod pools;
 mod round;
 mod theorems;

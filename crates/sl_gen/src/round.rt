@@ -1,27 +1,25 @@
-ghost use Rattle.std.specs.Prelude.{◌≡◌, ◌≤◌, map, IfOk};
-ghost use Rattle.std.specs.List.{range_with_len};
-ghost use Rattle.sl_gen.specs.Choices.{choices_of};
+ghost use Rattle.std.specs.Prelude.{◌≡◌, ◌≤◌, IfOk};
+ghost use Rattle.sl_gen.specs.Choices.{lists_between};
 ghost use Rattle.sl_gen.specs.Pools.{prog_count};
 ghost use Rattle.sl_gen.specs.Round.{generated};
 
-use crate::choices::{lists, lists_in_parallel};
+use crate::lists::{lists, lists_in_parallel};
 use crate::pools::{pool_count, pools, programmes};
-use sl_types::{Entry, Instance, MAX_APPLICANTS, OutOfMemory};
+use sl_types::{ChoiceLists, Instance, MAX_APPLICANTS, OutOfMemory};
 use std::alloc::Global;
 use std::thread::Threads;
 
 // The round of so many applicants, who have these lists. No rule of an instance fails in it, by
 // `generated_fits`, so none is tested.
-fn round_with(alloc: Global, n: u32, lists: Vec<Vec<Entry>>) -> Result<Instance, OutOfMemory>
+fn round_with(alloc: Global, n: u32, lists: ChoiceLists) -> Result<Instance, OutOfMemory>
     requires few { n ≤ MAX_APPLICANTS }
-    requires lists { let each = map (choices_of (prog_count n)) (range_with_len 0 n) in
-        map (λ l. l.items) lists.items ≡ each }
+    requires lists { lists ≡ lists_between (prog_count n) 0 n }
     ensures { IfOk result (λ i. i ≡ generated n) }
 {
     let count = pool_count(n);
     let pools = pools(alloc, count)?;
     let progs = programmes(alloc, 2 * count)?;
-    Instance::of_valid(alloc, pools, progs, lists)
+    Ok(Instance::of_lists(pools, progs, lists))
 }
 
 /// The generated round of `n` applicants, at least one and at most `MAX_APPLICANTS`. It is refused for

@@ -19,7 +19,7 @@ use Rattle.sl_choices.specs.declared.choices.ChoiceRow.{ChoiceRow}
 use Rattle.sl_instance.specs.Assembly.{entry_of}
 use Rattle.sl_instance.specs.Causes.{no_row, contradicts, ties_with, is_against_earlier, first_against, market_before}
 use Rattle.sl_instance.specs.Lists.{IsSortedOf}
-use Rattle.sl_instance.proofs.Lists.{chosen}
+use Rattle.sl_instance.proofs.Chosen.{chosen}
 
 pub and_false : (a : Bool) → (a && false) ≡ false
 and_false true = refl

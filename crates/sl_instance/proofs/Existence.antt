@@ -14,7 +14,7 @@ use Rattle.sl_choices.specs.Rows.{IsChoiceList}
 use Rattle.sl_instance.specs.NamedMarket.{NamedMarket}
 use Rattle.sl_instance.specs.Assembly.{IsAssembled}
 use Rattle.sl_instance.specs.Lists.{IsSortedOf}
-use Rattle.sl_instance.proofs.Lists.{chosen}
+use Rattle.sl_instance.proofs.Chosen.{chosen}
 use Rattle.sl_instance.proofs.Fit.{are_choices}
 
 -- one more choice, put before the first of a later place

@@ -34,7 +34,7 @@ use Rattle.sl_codes.specs.declared.faults.Cause.TheVariants.{MeritDiffers, Merit
 use Rattle.sl_codes.specs.declared.faults.Table.TheVariants.{Applications}
 use Rattle.sl_codes.proofs.FirstFault.{neither}
 use Rattle.sl_instance.specs.Lists.{IsSortedOf}
-use Rattle.sl_instance.proofs.Lists.{chosen}
+use Rattle.sl_instance.proofs.Chosen.{chosen}
 
 -- tests of numbers that fail
 not_below : (a b : ℕ) → b ≤ a → nat_lt a b ≡ false

@@ -1,4 +1,4 @@
-mod Lists
+mod Chosen
 pub mod Once
 mod Fit
 pub mod Existence

@@ -5,6 +5,7 @@ mod assembly;
 mod causes;
 mod conflicts;
 mod keyed;
+mod lists;
 mod named;
 mod theorems;
 

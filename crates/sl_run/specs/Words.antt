@@ -10,8 +10,8 @@ use Rattle.sl_codes.specs.declared.faults.Table.TheVariants.{Pools, Programmes, 
 use Rattle.sl_codes.specs.Fields.{number_within}
 use Rattle.sl_amend.specs.Tables.{is_written}
 use Rattle.sl_run.specs.declared.words.TheConstants.{MAX_WORKERS, MAX_LOOKS}
-use Rattle.sl_run.specs.declared.words.Letter.{Letter}
-use Rattle.sl_run.specs.declared.words.Letter.TheVariants.{H, L}
+use Rattle.sl_run.specs.declared.letter.Letter.{Letter}
+use Rattle.sl_run.specs.declared.letter.Letter.TheVariants.{H, L}
 use Rattle.sl_run.specs.declared.words.Tables as spoken_tables
 use Rattle.sl_run.specs.declared.words.Command as spoken
 use Rattle.sl_run.specs.declared.words.Command.TheVariants as form

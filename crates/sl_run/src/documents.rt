@@ -12,7 +12,8 @@ ghost use Rattle.sl_run.specs.Run.{is_of_files};
 
 use crate::failure::Failure;
 use crate::files::{fetch, read_tables};
-use crate::words::{Letter, Tables};
+use crate::letter::Letter;
+use crate::words::Tables;
 use sl_codes::Table;
 use sl_doc::{Doc, read_doc};
 use sl_instance::Named;

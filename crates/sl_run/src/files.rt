@@ -11,7 +11,8 @@ ghost use Rattle.sl_run.specs.Fetching.{IsTextOf, Reads, GivesPools, GivesProgra
 ghost use Rattle.sl_run.specs.Run.{is_of_files};
 
 use crate::failure::Failure;
-use crate::words::{Letter, Tables};
+use crate::letter::Letter;
+use crate::words::Tables;
 use sl_choices::{ChoiceTable, read_choices};
 use sl_codes::Table;
 use sl_instance::{Named, assemble};

@@ -12,6 +12,7 @@ mod done;
 mod ended;
 mod failure;
 mod files;
+mod letter;
 mod looks;
 mod outcome;
 mod rework;

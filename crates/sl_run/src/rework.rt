@@ -14,8 +14,8 @@ ghost use Rattle.sl_run.specs.Run.{amended_by, kept_of, is_of_output};
 
 use crate::amendments::dismiss;
 use crate::failure::Failure;
+use crate::letter::Letter;
 use crate::outcome::result_of;
-use crate::words::Letter;
 use sl_amend::{Amendments, amend};
 use sl_desk::Gate;
 use sl_doc::{Doc, doc_text};

@@ -1,50 +1,19 @@
-ghost use Rattle.std.specs.Prelude.{◌≡◌, ◌≢◌, true, option_map, IfSome};
-ghost use Rattle.sl_types.specs.declared.kinds.Rule.TheVariants.{Merit};
+ghost use Rattle.std.specs.Prelude.{◌≡◌, true, option_map, IfSome};
 ghost use Rattle.sl_codes.specs.Fields.{number_within};
 ghost use Rattle.sl_amend.specs.Tables.{is_written};
 ghost use Rattle.sl_run.specs.Words.{texts_of, command_in, command_of, HasRanges};
 ghost use Rattle.sl_run.specs.Words.{clear_of, check_of, watch_of, amend_of, table_of, demo_of};
-ghost use Rattle.sl_run.specs.Words.{letter_of, letter_rule, printed_of};
+ghost use Rattle.sl_run.specs.Words.{letter_of, printed_of};
 
+use crate::letter::Letter;
 use sl_codes::{Table, number_within};
-use sl_types::{MAX_APPLICANTS, Rule};
+use sl_types::MAX_APPLICANTS;
 
 /// How many workers there can be.
 pub const MAX_WORKERS: u32 = 64;
 
 /// How many looks there can be.
 pub const MAX_LOOKS: u32 = 100;
-
-/// The letter of a command: the rule of the pools of kind `score`.
-#[derive(Clone, Copy, Debug, PartialEq, Eq)]
-pub enum Letter {
-    H,
-    L,
-}
-
-impl Letter {
-    // The letter that a word is.
-    fn of(word: &str) -> Option<Letter>
-        ensures { result ≡ letter_of word.now }
-    {
-        match word {
-            "H" => Some(Letter::H),
-            "L" => Some(Letter::L),
-            _ => None,
-        }
-    }
-
-    /// The rule.
-    pub fn rule(self) -> Rule
-        ensures rule { result ≡ letter_rule self }
-        ensures score { result ≢ Merit }
-    {
-        match self {
-            Letter::H => Rule::H,
-            Letter::L => Rule::L,
-        }
-    }
-}
 
 /// The letter of a command, and the files of its tables.
 #[derive(Clone, Copy, Debug)]

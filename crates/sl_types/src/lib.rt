@@ -1,6 +1,7 @@
 //! The types of a round of admissions, and the instance that holds one whose tables fit together.
 #![tactic(auto)]
 
+mod choice_lists;
 mod display;
 mod faults;
 mod instance;
@@ -8,10 +9,10 @@ mod kinds;
 mod merits;
 mod nesting;
 mod outward;
-mod rows;
 mod rules;
 mod unfit;
 
+pub use choice_lists::ChoiceLists;
 pub use instance::Instance;
 pub use kinds::{
     AppId, Entry, Logged, MAX_APPLICANTS, MAX_CHOICES, MAX_DEPTH, MAX_LIST, MAX_PLACE, MAX_POOLS,

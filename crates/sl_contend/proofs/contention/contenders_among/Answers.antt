@@ -29,10 +29,13 @@ loop-number-preserved c =
           (λ Q h. ap (list_any (is_choice_in market Q)) c.list.ensures.value);
     }
 
+pub finish-requires : goal.finish-requires
+finish-requires c = let e = c.loop-number.invariant.each in let few = c.pools.ensures.few in let same = c.pools.ensures.count in omega (arith, e, few, same)
+
 pub returns : goal.returns
 returns c =
     let market = c.args.instance.now in
     let i = c.loop-number.invariant in
     let all : c.loop-number.number - c.args.first ≡ c.args.end - c.args.first = omega (arith, c.loop-number.auto.number-end, c.loop-number-test.false, c.requires.order) in
-    rw c.into_placed.ensures
-    (holds_range number_of_app (contends market) c.loop-number.rows (length market.pools) c.args.first c.args.end i.each (i.rows ∙ ap (rows_from (contends market) (length market.pools) c.args.first) all))
+    holds_range number_of_app (contends market) c.finish.result c.loop-number.rows (length market.pools) c.args.first c.args.end i.each c.finish.ensures.cut c.finish.ensures.rows
+    (i.rows ∙ ap (rows_from (contends market) (length market.pools) c.args.first) all)

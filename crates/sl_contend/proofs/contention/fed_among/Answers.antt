@@ -44,10 +44,13 @@ loop-number-preserved c =
           (λ Q h. ap (λ b. not (nat_eq Q P) && b) (contenders_lead market Q P apps row));
     }
 
+pub finish-requires : goal.finish-requires
+finish-requires c = let e = c.loop-number.invariant.each in let few = c.pools-count.ensures.few in let same = c.pools-count.ensures.count in omega (arith, e, few, same)
+
 pub returns : goal.returns
 returns c =
     let market = c.args.instance.now in
     let i = c.loop-number.invariant in
     let all : c.loop-number.number - c.args.first ≡ c.args.end - c.args.first = omega (arith, c.loop-number.auto.number-end, c.loop-number-test.false, c.requires.order) in
-    rw c.into_placed.ensures
-    (holds_range number_of_pool (is_fed market) c.loop-number.rows (length market.pools) c.args.first c.args.end i.each (i.rows ∙ ap (rows_from (is_fed market) (length market.pools) c.args.first) all))
+    holds_range number_of_pool (is_fed market) c.finish.result c.loop-number.rows (length market.pools) c.args.first c.args.end i.each c.finish.ensures.cut c.finish.ensures.rows
+    (i.rows ∙ ap (rows_from (is_fed market) (length market.pools) c.args.first) all)

@@ -1,21 +1,21 @@
-use Rattle.std.proofs.Common.{ℕ, ◌<◌, All, length, sym, subst}
+use Rattle.std.proofs.Common.{length}
 use Rattle.std.specs.Prelude.{IfOk}
 use Rattle.sl_contend.specs.Contention.{number_of_pool}
 use Rattle.sl_contend.specs.Pieces.{HoldFed}
-use Rattle.sl_contend.proofs.Ranged.{placed_range, each_held}
+use Rattle.sl_contend.proofs.Ranged.{all_cut, joined_range, each_held}
 use Rattle.sl_contend.proofs.Tables.{is_fed}
 use Rattle.sl_contend.proofs.listing.fed.Goals as goal
 
-pub bucket-requires-clause-within : goal.bucket-requires-clause-within
-bucket-requires-clause-within g c =
+pub join_rows-requires-clause-cut : goal.join_rows-requires-clause-cut
+join_rows-requires-clause-cut g c =
     let market = c.args.instance.now in
-    let held = placed_range number_of_pool (is_fed market) (length market.pools) c.pools.result (λ i j r. IfOk r (HoldFed market i j)) c.in_ok-placed.placed (λ i j part h. h) c.in_ok-placed.ensures in
-    rw (c.deref.ensures.value, c.pools-2.ensures.count) held.within
+    let all = all_cut (length market.pools) c.pools.result (λ i j r. IfOk r (HoldFed market i j)) c.in_ok-pieces.pieces.items (λ i j part h. h.cut) c.in_ok-pieces.ensures in
+    rw (c.as_slice.ensures.value, c.pools-2.ensures.count) all
 
 pub returns : goal.returns
 returns g c =
     let market = c.args.instance.now in
-    let held = placed_range number_of_pool (is_fed market) (length market.pools) c.pools.result (λ i j r. IfOk r (HoldFed market i j)) c.in_ok-placed.placed (λ i j part h. h) c.in_ok-placed.ensures in
-    let rows = rw (c.pools-2.ensures.count, c.deref.ensures.value) at c.bucket.ensures.rows in
-    let cut = rw c.pools-2.ensures.count at c.bucket.ensures.cut in
-    each_held number_of_pool (is_fed market) c.bucket.result market (length market.pools) c.in_ok-placed.placed.items (rw c.pools.ensures.count at held) cut rows
+    let rows = rw (c.pools-2.ensures.count, c.as_slice.ensures.value) at c.join_rows.ensures.rows in
+    let cut = rw c.pools-2.ensures.count at c.join_rows.ensures.cut in
+    let whole = joined_range number_of_pool (is_fed market) (length market.pools) c.pools.result (λ i j r. IfOk r (HoldFed market i j)) c.in_ok-pieces.pieces.items c.join_rows.result (λ i j part h. h) c.in_ok-pieces.ensures cut rows in
+    each_held number_of_pool (is_fed market) c.join_rows.result market (length market.pools) (rw c.pools.ensures.count at whole)

@@ -1,0 +1,3 @@
+mod Collected
+pub mod Joined
+pub mod Ranges
